@@ -1,0 +1,2 @@
+mod Totals
+mod Shown
