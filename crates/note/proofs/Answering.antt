@@ -38,7 +38,7 @@ no-note bytes register why is =
     record {
       value = sym (ap (λ r. onward r (placed (length register))) is);
       after = sym (ap (λ r. filled r register) is);
-      exact = λ n legal are. let back = ap read-note are ∙ reads-back n legal in let z : _≡_ {A = ℕ} 0 1 = cc in absurd (omega arith);
+      exact = λ n legal are. let back = ap read-note are ∙ reads-back n legal in absurd (grind arith);
       decided = decided bytes;
     }
 
@@ -93,5 +93,4 @@ module _ {bytes : List ℕ} {from : ℕ} {heading : Heading} {first : ℕ} (s : 
   never n count same took =
       let here = took-next same took in
       let e = here .value ∙ ap (λ m. read-trades m (drop first bytes)) count ∙ s .begins in
-      let z : _≡_ {A = ℕ} 0 1 = cc in
-      omega arith
+      grind arith

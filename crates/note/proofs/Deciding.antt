@@ -26,7 +26,7 @@ use Rattle.note.proofs.Round.{went, ok-same, some-when, number-encoded, encode
 number-fits : (bytes : List ℕ) (n : ℕ) (rest : List ℕ) → number bytes ≡ Some (n, rest) → n < 2 ^ 32
 number-fits bytes n rest e = by (leading bytes) e where
   by : (o : Option (ℕ × List ℕ)) → of-32-bits o ≡ Some (n, rest) → n < 2 ^ 32
-  by None e = let z : _≡_ {A = ℕ} 0 1 = cc in absurd (omega arith)
+  by None e = absurd (grind arith)
   by (Some (m, left)) e =
       let kept = some-when (ltb m (2 ^ 32)) (m, left) (n, rest) e in
       let same : m ≡ n = ap (λ x. x .0) (kept .1) in
@@ -53,8 +53,7 @@ number-longer bytes more long = by (number bytes) (number (bytes ++ more)) refl 
       let front : bytes ≡ encoded n ++ take (length bytes - length (encoded n)) rest =
       sym (take-at bytes more (length bytes) refl) ∙ ap (take (length bytes)) are ∙ ap (λ k. take k (encoded n ++ rest)) split ∙ take-append-add (encoded n) rest (length bytes - length (encoded n)) in
       let back = ap number front ∙ number-encoded n (take (length bytes - length (encoded n)) rest) fits in
-      let z : _≡_ {A = ℕ} 0 1 = cc in
-      absurd (omega arith)
+      absurd (grind arith)
 
 -- what is read with more bytes behind it
 longer : {X : Type 0} → List ℕ → Result (X × List ℕ) NoteRefusal → Result (X × List ℕ) NoteRefusal

@@ -134,7 +134,7 @@ record Parts (low n : ℕ) (rest : List ℕ) (o : Option (ℕ × List ℕ)) : Ty
   is : n ≡ low + 128 * high
 
 parts : (low n : ℕ) (rest : List ℕ) (o : Option (ℕ × List ℕ)) → with-group low o ≡ Some (n, rest) → Parts low n rest o
-parts low n rest None e = let z : _≡_ {A = ℕ} 0 1 = cc in absurd (omega arith)
+parts low n rest None e = absurd (grind arith)
 parts low n rest (Some (high, more)) e =
     ⊎-elim
     (λ p.
@@ -143,13 +143,12 @@ parts low n rest (Some (high, more)) e =
     (λ p.
     let x : eqb high 0 ≡ true = eq-eqb high 0 (omega arith) in
     let y : with-group low (Some (high, more)) ≡ None = rw x in
-    let z : _≡_ {A = ℕ} 0 1 = cc in
-    absurd (omega arith))
+    absurd (grind arith))
     (cases-lt 0 high)
 
 -- and what leads the bytes was encoded there
 pub encoded-leading : (bytes : List ℕ) (n : ℕ) (rest : List ℕ) → leading bytes ≡ Some (n, rest) → bytes ≡ encoded n ++ rest
-encoded-leading [] n rest e = let x = leading-nil in let z : _≡_ {A = ℕ} 0 1 = cc in absurd (omega arith)
+encoded-leading [] n rest e = let x = leading-nil in absurd (grind arith)
 encoded-leading (b ∷ bs) n rest e =
     ⊎-elim
     (λ l.
@@ -165,6 +164,6 @@ encoded-leading (b ∷ bs) n rest e =
     let big : 128 ≤ n = omega (arith, p .is, p .some) in
     let whole = encoded-more n big in
     ap (λ xs. b ∷ xs) (encoded-leading bs (p .high) rest (p .was)) ∙ ap (λ y. y ∷ (encoded (p .high) ++ rest)) (sym low) ∙ ap (λ y. (128 + n % 128) ∷ (encoded y ++ rest)) (sym above) ∙ ap (λ xs. xs ++ rest) (sym whole))
-    (λ wide. let x = leading-none b bs wide in let z : _≡_ {A = ℕ} 0 1 = cc in absurd (omega arith))
+    (λ wide. let x = leading-none b bs wide in absurd (grind arith))
     (cases-lt b 256))
     (cases-lt b 128)

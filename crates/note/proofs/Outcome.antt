@@ -58,5 +58,4 @@ refused bytes places why enough e = by (read-note bytes) refl e where
   by (Ok n) is e =
       let most = few-trades bytes n is in
       let placed-ok : placed places n ≡ Ok (record { price = n .price; count = length (n .trades) }) = cond-true (leb (length (n .trades)) places) (Ok (record { price = n .price; count = length (n .trades) })) (Err RegisterShort) (le-leb (length (n .trades)) places (omega arith)) in
-      let z : _≡_ {A = ℕ} 0 1 = cc in
-      absurd (omega arith)
+      absurd (grind arith)

@@ -27,7 +27,7 @@ pub record Went {X Y : Type 0} (r : Result X NoteRefusal) (next : X → Result Y
 
 pub went : {X Y : Type 0} (r : Result X NoteRefusal) (next : X → Result Y NoteRefusal) (y : Y) → onward r next ≡ Ok y → Went r next y
 went (Ok x) next y e = record { first = x; was = refl; then = e }
-went (Err why) next y e = let z : _≡_ {A = ℕ} 0 1 = cc in absurd (omega arith)
+went (Err why) next y e = absurd (grind arith)
 
 pub ok-same : {X : Type 0} {x y : X} → _≡_ {A = Result X NoteRefusal} (Ok x) (Ok y) → x ≡ y
 ok-same e = cc
@@ -35,11 +35,11 @@ ok-same e = cc
 -- what a test let through
 pub some-when : {X : Type 0} (b : Bool) (x y : X) → cond b (Some x) None ≡ Some y → (b ≡ true) × (x ≡ y)
 some-when true x y e = (refl, cc)
-some-when false x y e = let z : _≡_ {A = ℕ} 0 1 = cc in absurd (omega arith)
+some-when false x y e = absurd (grind arith)
 
 pub ok-when : {X : Type 0} (b : Bool) (x y : X) (why : NoteRefusal) → cond b (Ok x) (Err why) ≡ Ok y → (b ≡ true) × (x ≡ y)
 ok-when true x y why e = (refl, cc)
-ok-when false x y why e = let z : _≡_ {A = ℕ} 0 1 = cc in absurd (omega arith)
+ok-when false x y why e = absurd (grind arith)
 
 pub within-most : (most n : ℕ) → within most n ≡ true → n ≤ most
 within-most most n h = leb-true n most (and-parts (leb 1 n) (leb n most) h .1)
@@ -64,7 +64,7 @@ pub record Told (legal : ℕ → Bool) (bytes : List ℕ) (p : ℕ × List ℕ) 
 pub told : (legal : ℕ → Bool) (bytes : List ℕ) (p : ℕ × List ℕ) → read-number legal bytes ≡ Ok p → Told legal bytes p
 told legal bytes p e = by (number bytes) refl e where
   by : (o : Option (ℕ × List ℕ)) → number bytes ≡ o → judged legal o ≡ Ok p → Told legal bytes p
-  by None is e = let z : _≡_ {A = ℕ} 0 1 = cc in absurd (omega arith)
+  by None is e = absurd (grind arith)
   by (Some (n, rest)) is e =
       let kept = ok-when (legal n) (n, rest) p OutOfRange e in
       subst (Told legal bytes) (kept .1) (record { bytes-are = encoded-number bytes n rest is; in-range = kept .0 })
@@ -151,7 +151,7 @@ pub record Told-note (bytes : List ℕ) (n : Note) : Type 0 where
 -- nothing is left over after a note that was read
 ended-whole : (m n : Note) (rest : List ℕ) → ended m rest ≡ Ok n → (rest ≡ []) × (m ≡ n)
 ended-whole m n [] e = (refl, ok-same e)
-ended-whole m n (b ∷ bs) e = let z : _≡_ {A = ℕ} 0 1 = cc in absurd (omega arith)
+ended-whole m n (b ∷ bs) e = absurd (grind arith)
 
 parts-told : (bytes : List ℕ) (p c : ℕ × List ℕ) (t : List Trade × List ℕ) → Told is-price bytes p → Told is-count (p .1) c → Told-trades (c .1) (c .0) t → t .1 ≡ [] → Told-note bytes (record { price = p .0; trades = t .0 })
 parts-told bytes p c t one two three end =
