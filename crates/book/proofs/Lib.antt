@@ -1,0 +1,4 @@
+pub mod Listing
+pub mod Makes
+pub mod Standing
+pub mod Turns

@@ -1,0 +1,6 @@
+pub mod Best
+pub mod Ranges
+pub mod Meaning
+pub mod Ranks
+pub mod Runs
+pub mod Refusals

@@ -1,0 +1,37 @@
+// The order book: orders, what a book means, and what every make of book does.
+mod bodies;
+mod books;
+mod orders;
+mod refusals;
+mod runs;
+mod sides;
+mod tops;
+
+pub use books::LAST_NUMBER;
+pub use books::MAX_PLACES;
+pub use books::OrderBook;
+pub use orders::Body;
+pub use orders::Live;
+pub use orders::MAX_LIMIT;
+pub use orders::MAX_QUANTITY;
+pub use orders::Side;
+pub use orders::SideDebug;
+pub use orders::SidePartialEq;
+pub use refusals::BookRefusal;
+pub use refusals::BookRefusalDebug;
+pub use refusals::BookRefusalPartialEq;
+pub use runs::BuyOrderHolds;
+pub use runs::Holds;
+pub use runs::LiveHolds;
+pub use runs::SellOrderHolds;
+pub use runs::cut_in;
+pub use runs::find_in;
+pub use runs::position;
+pub use sides::BuyOrder;
+pub use sides::BuyOrderRanked;
+pub use sides::SellOrder;
+pub use sides::SellOrderRanked;
+pub use sides::outranks;
+pub use sides::trades_at;
+pub use tops::TopOfBook;
+pub use tops::top_of_book;
