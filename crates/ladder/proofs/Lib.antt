@@ -1,0 +1,4 @@
+mod Keeping
+mod Merging
+mod Owning
+mod Queueing

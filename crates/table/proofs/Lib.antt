@@ -1,0 +1,4 @@
+mod Counts
+mod Loops
+mod Moving
+mod Tabling

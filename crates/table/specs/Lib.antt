@@ -1,0 +1,3 @@
+pub mod Aheads
+pub mod Soundness
+pub mod Tables
