@@ -5,7 +5,7 @@ use note::NoteRefusal;
 use note::Trade;
 use note::write_note;
 
-pub fn trade(buy: u32, sell: u32, quantity: u32) -> Trade {
+pub(crate) fn trade(buy: u32, sell: u32, quantity: u32) -> Trade {
     Trade {
         buy,
         sell,
@@ -14,13 +14,18 @@ pub fn trade(buy: u32, sell: u32, quantity: u32) -> Trade {
 }
 
 /// What a reader with places for any note answers.
-pub fn answer(bytes: &[u8]) -> Result<Heading, NoteRefusal> {
+pub(crate) fn answer(bytes: &[u8]) -> Result<Heading, NoteRefusal> {
     let mut register = [trade(0, 0, 0); 255];
     NoteReader::new(bytes).read(&mut register)
 }
 
 /// The length of a note of one trade, or why it is refused.
-pub fn written(price: u32, buy: u32, sell: u32, quantity: u32) -> Result<usize, NoteRefusal> {
+pub(crate) fn written(
+    price: u32,
+    buy: u32,
+    sell: u32,
+    quantity: u32,
+) -> Result<usize, NoteRefusal> {
     let mut buffer = [0u8; 16];
     write_note(price, 1, &[trade(buy, sell, quantity)], &mut buffer)
 }
