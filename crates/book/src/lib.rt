@@ -1,4 +1,6 @@
 // The order book: orders, what a book means, and what every make of book does.
+#![tactic(auto)]
+
 mod bodies;
 mod books;
 mod orders;

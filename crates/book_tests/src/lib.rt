@@ -1,4 +1,6 @@
 // Every make of book on the same scripted calls, and what books are made of.
+#![tactic(auto)]
+
 #[cfg(test)]
 mod bodies;
 #[cfg(test)]

@@ -1,4 +1,6 @@
 // Does one operation of a book a thousand times, so that its instructions can be counted from outside.
+#![tactic(auto)]
+
 mod works;
 
 use anyhow::Context;

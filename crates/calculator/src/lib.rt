@@ -1,5 +1,7 @@
 // An auction calculator for trials. It knows nothing of the search and of the pairing: it tries every price, and trades one contract at
 // a time.
+#![tactic(auto)]
+
 mod books;
 mod plain;
 mod prices;

@@ -1,4 +1,6 @@
 // The closing price: contributions to its survey, and the first criterion that serves.
+#![tactic(auto)]
+
 mod closings;
 mod contributions;
 mod criteria;

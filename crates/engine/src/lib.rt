@@ -1,4 +1,6 @@
 // The auction engine: entry, cut, withdrawal and uncrossing on any book, and a whole list of calls.
+#![tactic(auto)]
+
 mod fronts;
 mod journals;
 mod messages;

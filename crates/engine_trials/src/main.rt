@@ -1,4 +1,6 @@
 // Tries the engine: generated lists of calls on both makes against the calculator, and days worked out by hand.
+#![tactic(auto)]
+
 mod days;
 mod lists;
 mod shown;

@@ -1,4 +1,6 @@
 // A whole order feed, played on a book: what each line is answered, and where a refused line is at fault.
+#![tactic(auto)]
+
 mod faults;
 mod places;
 mod plays;

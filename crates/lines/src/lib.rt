@@ -1,4 +1,6 @@
 // The lines of an order feed: their five forms, and the reader that hands them out.
+#![tactic(auto)]
+
 mod fields;
 mod kinds;
 mod reader;

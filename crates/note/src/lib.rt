@@ -1,4 +1,6 @@
 // The clearing note: its trade record, its numbers in seven-bit groups, its writer and its reader.
+#![tactic(auto)]
+
 mod numbers;
 mod reader;
 mod refusals;

@@ -1,4 +1,6 @@
 // Tests of the clearing note at its boundaries, through its public calls.
+#![tactic(auto)]
+
 #[cfg(test)]
 mod figures;
 #[cfg(test)]

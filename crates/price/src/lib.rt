@@ -1,4 +1,6 @@
 // The equilibrium price of any book, found by two bisections.
+#![tactic(auto)]
+
 mod indications;
 mod quantities;
 mod searches;

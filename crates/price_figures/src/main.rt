@@ -1,4 +1,6 @@
 // Prints figures of the survey, the closing price and the registration, each with its verdict.
+#![tactic(auto)]
+
 mod closings;
 mod contributions;
 mod registrations;

@@ -1,5 +1,7 @@
 // Tries the price search: generated books against a calculator that tries every price, the worked figures, and books at the
 // ends of the ranges.
+#![tactic(auto)]
+
 mod books;
 mod figures;
 

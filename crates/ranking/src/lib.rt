@@ -1,4 +1,6 @@
 // Total rankings of items, and runs of items in rank.
+#![tactic(auto)]
+
 mod rankings;
 mod runs;
 mod surveys;

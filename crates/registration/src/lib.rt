@@ -1,4 +1,6 @@
 // The verdict on a price to register: the first criterion that applies, and whether the price lies in its band.
+#![tactic(auto)]
+
 mod bands;
 mod refusals;
 mod registrations;

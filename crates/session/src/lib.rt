@@ -1,4 +1,6 @@
 // A session of the auction: its tick and its scarcity price, what a session refuses, judging prices, and the rounding of means.
+#![tactic(auto)]
+
 mod judgements;
 mod openings;
 mod refusals;

@@ -1,4 +1,6 @@
 // Reads a note on standard input and prints what it says, or why it is refused.
+#![tactic(auto)]
+
 mod reports;
 #[cfg(test)]
 mod tests;

@@ -1,4 +1,6 @@
 // The arrival table: a make of book that keeps its orders in the order of entry.
+#![tactic(auto)]
+
 mod columns;
 mod rows;
 mod table_books;

@@ -1,4 +1,6 @@
 // What may be asked of a book in a session and what is answered, and the law over every list of calls.
+#![tactic(auto)]
+
 mod answers;
 mod calls;
 mod refusals;
