@@ -7,7 +7,7 @@ use crate::rankings::Ranked;
 /// The place of the first item of the run that `item` goes before, or the run's length.
 fn place_of<T: Ranked>(run: &[T], item: &T) -> usize
     ensures within { result ≤ length run.now }
-    ensures value { placed before item.now run.now ≡ take result run.now ++ (item.now ∷ drop result run.now) }
+    ensures value { placed T.before item.now run.now ≡ take result run.now ++ (item.now ∷ drop result run.now) }
 {
     for (i, other) in run.iter().enumerate() {
         if item.goes_before(other) {
@@ -19,9 +19,9 @@ fn place_of<T: Ranked>(run: &[T], item: &T) -> usize
 
 /// Moves the last item of the run to its place among the others: just before the first that it goes before, or last.
 pub fn settle_last<T: Ranked + Copy>(run: &mut [T])
-    ensures placed { (xs : List T) (x : T) → run.old ≡ xs ++ x ∷ [] → run.new ≡ placed before x xs }
+    ensures placed { (xs : List T) (x : T) → run.old ≡ xs ++ x ∷ [] → run.new ≡ placed T.before x xs }
     ensures empty { run.old ≡ [] → run.new ≡ [] }
-    ensures ranked { (xs : List T) (x : T) → run.old ≡ xs ++ x ∷ [] → in_rank before xs ≡ true → in_rank before run.new ≡ true }
+    ensures ranked { (xs : List T) (x : T) → run.old ≡ xs ++ x ∷ [] → in_rank T.before xs ≡ true → in_rank T.before run.new ≡ true }
 {
     let len = run.len();
     if len == 0 {
@@ -34,7 +34,7 @@ pub fn settle_last<T: Ranked + Copy>(run: &mut [T])
 
 /// Whether no item of the run goes before an earlier one.
 pub fn is_in_rank<T: Ranked>(run: &[T]) -> bool
-    ensures { result ≡ in_rank before run.now }
+    ensures { result ≡ in_rank T.before run.now }
 {
     for i in 1..run.len() {
         if run[i].goes_before(&run[i - 1]) {
