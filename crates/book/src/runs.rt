@@ -61,7 +61,7 @@ impl Holds for SellOrder {
 
 /// Where the order of a number stands in the run, counted from 0.
 pub fn position<H: Holds>(run: &[H], number: u32) -> Option<usize>
-    ensures { MatchOption result (find_in (map order run.now) number ≡ None) (λ i. (i < length run.now) × Stands (map order run.now) number i) }
+    ensures { MatchOption result (find_in (map H.order run.now) number ≡ None) (λ i. (i < length run.now) × Stands (map H.order run.now) number i) }
 {
     for (i, item) in run.iter().enumerate() {
         if item.live().number == number {
@@ -73,7 +73,7 @@ pub fn position<H: Holds>(run: &[H], number: u32) -> Option<usize>
 
 /// The order of a number in the run.
 pub fn find_in<H: Holds>(run: &[H], number: u32) -> Option<Live>
-    ensures { seen result ≡ find_in (map order run.now) number }
+    ensures { seen result ≡ find_in (map H.order run.now) number }
 {
     match position(run, number) {
         Some(i) => Some(run[i].live()),
@@ -87,8 +87,8 @@ pub fn cut_in<H: Holds + Copy>(
     number: u32,
     quantity: u32,
 ) -> Option<Result<(), BookRefusal>>
-    ensures answer { result ≡ run_cut (map order run.old.items) number quantity }
-    ensures after { map order run.new.items ≡ run_after result (cut_in (map order run.old.items) number quantity) (map order run.old.items) }
+    ensures answer { result ≡ run_cut (map H.order run.old.items) number quantity }
+    ensures after { map H.order run.new.items ≡ run_after result (cut_in (map H.order run.old.items) number quantity) (map H.order run.old.items) }
     ensures capacity { vec_capacity run.new ≡ vec_capacity run.old }
 {
     let i = position(run, number)?;

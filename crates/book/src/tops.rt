@@ -33,9 +33,9 @@ fn traded(buy: Option<Live>, sell: Option<Live>) -> u32
 
 /// The best order of each side of the book, and what trades between them.
 pub fn top_of_book<B: OrderBook>(book: &B) -> TopOfBook
-    ensures buy { seen result.buy ≡ best_of (meaning book.now) OfBuys }
-    ensures sell { seen result.sell ≡ best_of (meaning book.now) OfSells }
-    ensures traded { result.traded ≡ between (best_of (meaning book.now) OfBuys) (best_of (meaning book.now) OfSells) }
+    ensures buy { seen result.buy ≡ best_of (B.meaning book.now) OfBuys }
+    ensures sell { seen result.sell ≡ best_of (B.meaning book.now) OfSells }
+    ensures traded { result.traded ≡ between (best_of (B.meaning book.now) OfBuys) (best_of (B.meaning book.now) OfSells) }
 {
     let buy = book.rank(Side::Buy, 1);
     let sell = book.rank(Side::Sell, 1);

@@ -26,8 +26,8 @@ pub fn entry<B: OrderBook>(
     quantity: u32,
     price: u32,
 ) -> Result<u32, Refusal>
-    ensures answer { entry_reply result ≡ (outcome session.tick session.scarcity 0 (meaning book.old) (AskEntry side quantity price)).reply }
-    ensures after { meaning book.new ≡ (outcome session.tick session.scarcity 0 (meaning book.old) (AskEntry side quantity price)).after }
+    ensures answer { entry_reply result ≡ (outcome session.tick session.scarcity 0 (B.meaning book.old) (AskEntry side quantity price)).reply }
+    ensures after { B.meaning book.new ≡ (outcome session.tick session.scarcity 0 (B.meaning book.old) (AskEntry side quantity price)).after }
 {
     let limit = judge_entry(session, quantity, price)?;
     let Some(body) = Body::new(side, limit, quantity) else {
@@ -38,8 +38,8 @@ pub fn entry<B: OrderBook>(
 
 /// Takes contracts from an order, which leaves at 0.
 pub fn cut<B: OrderBook>(book: &mut B, number: u32, quantity: u32) -> Result<(), Refusal>
-    ensures answer { cut_reply result ≡ (outcome 0 0 0 (meaning book.old) (AskCut number quantity)).reply }
-    ensures after { meaning book.new ≡ (outcome 0 0 0 (meaning book.old) (AskCut number quantity)).after }
+    ensures answer { cut_reply result ≡ (outcome 0 0 0 (B.meaning book.old) (AskCut number quantity)).reply }
+    ensures after { B.meaning book.new ≡ (outcome 0 0 0 (B.meaning book.old) (AskCut number quantity)).after }
 {
     book.cut(number, quantity)?;
     Ok(())
@@ -47,8 +47,8 @@ pub fn cut<B: OrderBook>(book: &mut B, number: u32, quantity: u32) -> Result<(),
 
 /// Takes all that an order holds.
 pub fn withdrawal<B: OrderBook>(book: &mut B, number: u32) -> Result<(), Refusal>
-    ensures answer { withdrawal_reply result ≡ (outcome 0 0 0 (meaning book.old) (AskWithdrawal number)).reply }
-    ensures after { meaning book.new ≡ (outcome 0 0 0 (meaning book.old) (AskWithdrawal number)).after }
+    ensures answer { withdrawal_reply result ≡ (outcome 0 0 0 (B.meaning book.old) (AskWithdrawal number)).reply }
+    ensures after { B.meaning book.new ≡ (outcome 0 0 0 (B.meaning book.old) (AskWithdrawal number)).after }
 {
     let Some(live) = book.find(number) else {
         return Err(Refusal::Book(BookRefusal::UnknownOrder));

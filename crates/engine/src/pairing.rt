@@ -13,8 +13,8 @@ const NOTHING: u32 = 0;
 
 /// The front with its first fill open, if there is one.
 fn refilled<B: OrderBook>(book: &B, side: Side, front: Front) -> Front
-    requires { At side (meaning book.now).orders front }
-    ensures { Refilled side (meaning book.now).orders front result }
+    requires { At side (B.meaning book.now).orders front }
+    ensures { Refilled side (B.meaning book.now).orders front result }
 {
     if front.open > NOTHING || front.left == NOTHING {
         return front;
@@ -48,8 +48,8 @@ fn lessened(front: Front, quantity: u32) -> Front
 
 /// The next trade: of the first order still to be filled on each side, the smaller of their open fills.
 fn next_trade<B: OrderBook>(book: &B, fronts: &mut Fronts) -> Option<Trade>
-    requires { Placed (meaning book.now).orders fronts.old }
-    ensures { Next (meaning book.now).orders fronts.old result fronts.new }
+    requires { Placed (B.meaning book.now).orders fronts.old }
+    ensures { Next (B.meaning book.now).orders fronts.old result fronts.new }
 {
     let buys = refilled(book, Side::Buy, fronts.buys);
     let sells = refilled(book, Side::Sell, fronts.sells);
@@ -84,7 +84,7 @@ fn begin(volume: u32) -> Fronts
 
 /// How many trades the volume makes.
 pub(crate) fn count_trades<B: OrderBook>(book: &B, volume: u32) -> usize
-    ensures { result ≡ length (trades_at volume (meaning book.now).orders) }
+    ensures { result ≡ length (trades_at volume (B.meaning book.now).orders) }
 {
     let mut fronts = begin(volume);
     let mut count = 0usize;
@@ -96,8 +96,8 @@ pub(crate) fn count_trades<B: OrderBook>(book: &B, volume: u32) -> usize
 
 /// Writes the trades of the volume into the register from its first place on; later places stay.
 pub(crate) fn write_trades<B: OrderBook>(book: &B, volume: u32, register: &mut [Trade])
-    requires { length (trades_at volume (meaning book.now).orders) ≤ length register.old }
-    ensures { register.new ≡ written (trades_at volume (meaning book.now).orders) register.old }
+    requires { length (trades_at volume (B.meaning book.now).orders) ≤ length register.old }
+    ensures { register.new ≡ written (trades_at volume (B.meaning book.now).orders) register.old }
 {
     let mut fronts = begin(volume);
     let mut place = 0usize;

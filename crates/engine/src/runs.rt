@@ -32,11 +32,11 @@ fn uncross_into<B: OrderBook>(
     register: &mut [Trade],
     log: &mut Vec<Trade>,
 ) -> Answer
-    requires { vec_len log.old + length (meaning book.old).orders + 1 ≤ vec_capacity log.old }
-    ensures reply { read log.new.items result ≡ (outcome session.tick session.scarcity (length register.old) (meaning book.old) AskUncrossing).reply }
-    ensures after { meaning book.new ≡ (outcome session.tick session.scarcity (length register.old) (meaning book.old) AskUncrossing).after }
-    ensures register { register.new ≡ written (trades_of (outcome session.tick session.scarcity (length register.old) (meaning book.old) AskUncrossing).reply) register.old }
-    ensures log { log.new.items ≡ log.old.items ++ trades_of (outcome session.tick session.scarcity (length register.old) (meaning book.old) AskUncrossing).reply }
+    requires { vec_len log.old + length (B.meaning book.old).orders + 1 ≤ vec_capacity log.old }
+    ensures reply { read log.new.items result ≡ (outcome session.tick session.scarcity (length register.old) (B.meaning book.old) AskUncrossing).reply }
+    ensures after { B.meaning book.new ≡ (outcome session.tick session.scarcity (length register.old) (B.meaning book.old) AskUncrossing).after }
+    ensures register { register.new ≡ written (trades_of (outcome session.tick session.scarcity (length register.old) (B.meaning book.old) AskUncrossing).reply) register.old }
+    ensures log { log.new.items ≡ log.old.items ++ trades_of (outcome session.tick session.scarcity (length register.old) (B.meaning book.old) AskUncrossing).reply }
     ensures capacity { vec_capacity log.new ≡ vec_capacity log.old }
     ensures within { Within (vec_len log.new) result }
 {
@@ -63,11 +63,11 @@ fn carry_out<B: OrderBook>(
     register: &mut [Trade],
     log: &mut Vec<Trade>,
 ) -> Answer
-    requires { vec_len log.old + length (meaning book.old).orders + 1 ≤ vec_capacity log.old }
-    ensures reply { read log.new.items result ≡ (outcome session.tick session.scarcity (length register.old) (meaning book.old) call).reply }
-    ensures after { meaning book.new ≡ (outcome session.tick session.scarcity (length register.old) (meaning book.old) call).after }
-    ensures register { register.new ≡ written (trades_of (outcome session.tick session.scarcity (length register.old) (meaning book.old) call).reply) register.old }
-    ensures log { log.new.items ≡ log.old.items ++ trades_of (outcome session.tick session.scarcity (length register.old) (meaning book.old) call).reply }
+    requires { vec_len log.old + length (B.meaning book.old).orders + 1 ≤ vec_capacity log.old }
+    ensures reply { read log.new.items result ≡ (outcome session.tick session.scarcity (length register.old) (B.meaning book.old) call).reply }
+    ensures after { B.meaning book.new ≡ (outcome session.tick session.scarcity (length register.old) (B.meaning book.old) call).after }
+    ensures register { register.new ≡ written (trades_of (outcome session.tick session.scarcity (length register.old) (B.meaning book.old) call).reply) register.old }
+    ensures log { log.new.items ≡ log.old.items ++ trades_of (outcome session.tick session.scarcity (length register.old) (B.meaning book.old) call).reply }
     ensures capacity { vec_capacity log.new ≡ vec_capacity log.old }
     ensures within { Within (vec_len log.new) result }
 {
@@ -104,7 +104,7 @@ pub fn run<B: OrderBook>(
     calls: &[Call],
     register: &mut [Trade],
 ) -> Result<Journal, AllocError>
-    ensures { MatchResult result (λ journal. Ran session.tick session.scarcity (meaning book.old) register.old calls.now journal.answers.items journal.trades.items (meaning book.new) register.new) (λ _. NotRan (meaning book.old) register.old (meaning book.new) register.new) }
+    ensures { MatchResult result (λ journal. Ran session.tick session.scarcity (B.meaning book.old) register.old calls.now journal.answers.items journal.trades.items (B.meaning book.new) register.new) (λ _. NotRan (B.meaning book.old) register.old (B.meaning book.new) register.new) }
 {
     let Some(room) = calls.len().checked_add(MAX_PLACES) else {
         return Err(AllocError);

@@ -16,8 +16,8 @@ use trading::Refusal;
 
 /// Cuts each trade from both of its orders.
 fn settle_trades<B: OrderBook>(book: &mut B, trades: &[Trade])
-    requires { Cuttable (meaning book.old).orders trades.now }
-    ensures { meaning book.new ≡ settled (meaning book.old) trades.now }
+    requires { Cuttable (B.meaning book.old).orders trades.now }
+    ensures { B.meaning book.new ≡ settled (B.meaning book.old) trades.now }
 {
     for trade in trades {
         let _ = book.cut(trade.buy, trade.quantity);
@@ -31,10 +31,10 @@ pub fn uncrossing<B: OrderBook>(
     session: Session,
     register: &mut [Trade],
 ) -> Result<Uncrossed, Refusal>
-    ensures answer { uncrossing_reply result register.new ≡ (outcome session.tick session.scarcity (length register.old) (meaning book.old) AskUncrossing).reply }
-    ensures after { meaning book.new ≡ (outcome session.tick session.scarcity (length register.old) (meaning book.old) AskUncrossing).after }
-    ensures register { register.new ≡ written (trades_of (outcome session.tick session.scarcity (length register.old) (meaning book.old) AskUncrossing).reply) register.old }
-    ensures count { IfOk result (λ done. (done.count ≤ length register.new) × (done.count ≤ length (meaning book.old).orders - 1) × (done.count ≤ 255)) }
+    ensures answer { uncrossing_reply result register.new ≡ (outcome session.tick session.scarcity (length register.old) (B.meaning book.old) AskUncrossing).reply }
+    ensures after { B.meaning book.new ≡ (outcome session.tick session.scarcity (length register.old) (B.meaning book.old) AskUncrossing).after }
+    ensures register { register.new ≡ written (trades_of (outcome session.tick session.scarcity (length register.old) (B.meaning book.old) AskUncrossing).reply) register.old }
+    ensures count { IfOk result (λ done. (done.count ≤ length register.new) × (done.count ≤ length (B.meaning book.old).orders - 1) × (done.count ≤ 255)) }
 {
     let told = indication(book, session)?;
     let count = count_trades(book, told.volume);

@@ -31,7 +31,7 @@ fn carry_out<B: OrderBook>(
     register: &mut [Trade],
 ) -> Result<Journal, AllocError>
     requires { Silent (terms_of session) calls.now }
-    ensures { MatchResult result (λ journal. CarriedOut (terms_of session) (meaning book.old) register.old calls.now (replies-read journal.trades.items journal.answers.items) (meaning book.new) register.new) (λ _. Unplayed (meaning book.old) register.old (meaning book.new) register.new) }
+    ensures { MatchResult result (λ journal. CarriedOut (terms_of session) (B.meaning book.old) register.old calls.now (replies-read journal.trades.items journal.answers.items) (B.meaning book.new) register.new) (λ _. Unplayed (B.meaning book.old) register.old (B.meaning book.new) register.new) }
 {
     match session {
         Some(session) => run(heap, book, session, calls, register),
@@ -50,7 +50,7 @@ pub fn play<B: OrderBook>(
     feed: &[u8],
     register: &mut [Trade],
 ) -> Result<Played, AllocError>
-    ensures { MatchResult result (λ played. Plays feed.now (meaning book.old) register.old (read_all played.trades.items played.replies.items) (meaning book.new) register.new) (λ _. Unplayed (meaning book.old) register.old (meaning book.new) register.new) }
+    ensures { MatchResult result (λ played. Plays feed.now (B.meaning book.old) register.old (read_all played.trades.items played.replies.items) (B.meaning book.new) register.new) (λ _. Unplayed (B.meaning book.old) register.old (B.meaning book.new) register.new) }
 {
     let script = read_script(heap, feed)?;
     let mut replies = Vec::with_capacity(heap, script.steps.len())?;

@@ -13,7 +13,7 @@ use ranking::{Ranked, settle_last};
 /// Places an item in a run that has room for it.
 pub(crate) fn enqueue<Q: Ranked + Copy>(run: &mut Vec<Q>, item: Q)
     requires { vec_len run.old < vec_capacity run.old }
-    ensures items { run.new.items ≡ placed before item run.old.items }
+    ensures items { run.new.items ≡ placed Q.before item run.old.items }
     ensures capacity { vec_capacity run.new ≡ vec_capacity run.old }
 {
     run.push_reserved(item);
@@ -22,7 +22,7 @@ pub(crate) fn enqueue<Q: Ranked + Copy>(run: &mut Vec<Q>, item: Q)
 
 /// The order at place `k` of the run, counted from 1.
 pub(crate) fn order_at<H: Holds>(run: &[H], k: usize) -> Option<Live>
-    ensures { seen result ≡ at_place (map order run.now) k }
+    ensures { seen result ≡ at_place (map H.order run.now) k }
 {
     if k == 0 || run.len() < k {
         return None;
@@ -33,9 +33,9 @@ pub(crate) fn order_at<H: Holds>(run: &[H], k: usize) -> Option<Live>
 /// The quantity of a side's orders that trade at `m` ticks: up to the first that does not.
 pub(crate) fn quantity_in<H: Holds>(run: &[H], side: Side, m: u32) -> u32
     requires few { length run.now ≤ 256 }
-    requires sided { all_of side (map order run.now) ≡ true }
-    requires ranked { in_rank (outranking side) (map order run.now) ≡ true }
-    ensures { result ≡ quantity_at side m (map order run.now) }
+    requires sided { all_of side (map H.order run.now) ≡ true }
+    requires ranked { in_rank (outranking side) (map H.order run.now) ≡ true }
+    ensures { result ≡ quantity_at side m (map H.order run.now) }
 {
     let mut sum = 0u32;
     for item in run {

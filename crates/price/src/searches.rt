@@ -17,8 +17,8 @@ const LEVEL: u32 = 0;
 
 /// The highest price up to `most` at which no less is bought than sold, or the one below `least`.
 fn crossing<B: OrderBook>(book: &B, least: u32, most: u32) -> u32
-    requires { Crossed (schedule (meaning book.now).orders most) least most }
-    ensures crossing { Crossing (schedule (meaning book.now).orders most) result }
+    requires { Crossed (schedule (B.meaning book.now).orders most) least most }
+    ensures crossing { Crossing (schedule (B.meaning book.now).orders most) result }
     ensures low { least ≤ result + 1 }
 {
     let mut low = least - 1;
@@ -39,8 +39,8 @@ fn crossing<B: OrderBook>(book: &B, least: u32, most: u32) -> u32
 fn lowest_same<B: OrderBook>(book: &B, least: u32, p: u32) -> u32
     requires one { 1 ≤ least }
     requires order { least ≤ p }
-    requires below { (m : ℕ) → m < least → Same (schedule (meaning book.now).orders p) p m → ⊥ }
-    ensures { LowestSame (schedule (meaning book.now).orders p) p result }
+    requires below { (m : ℕ) → m < least → Same (schedule (B.meaning book.now).orders p) p m → ⊥ }
+    ensures { LowestSame (schedule (B.meaning book.now).orders p) p result }
 {
     let (bought, sold) = book.at_limit(p);
     let mut low = least;
@@ -59,8 +59,8 @@ fn lowest_same<B: OrderBook>(book: &B, least: u32, p: u32) -> u32
 
 /// What is bought and sold at a price, or nothing at one that does not trade.
 fn traded_at<B: OrderBook>(book: &B, least: u32, most: u32, m: u32) -> (u32, u32)
-    requires { Crossed (schedule (meaning book.now).orders most) least most }
-    ensures { TradedAt (schedule (meaning book.now).orders most) m result }
+    requires { Crossed (schedule (B.meaning book.now).orders most) least most }
+    ensures { TradedAt (schedule (B.meaning book.now).orders most) m result }
 {
     if m < least || m > most {
         return (0, 0);
@@ -70,11 +70,11 @@ fn traded_at<B: OrderBook>(book: &B, least: u32, most: u32, m: u32) -> (u32, u32
 
 /// The equilibrium price in ticks, by the two prices at the crossing: `p` and the next.
 fn price_at<B: OrderBook>(book: &B, least: u32, most: u32, p: u32) -> u32
-    requires crossed { Crossed (schedule (meaning book.now).orders most) least most }
-    requires crossing { Crossing (schedule (meaning book.now).orders most) p }
+    requires crossed { Crossed (schedule (B.meaning book.now).orders most) least most }
+    requires crossing { Crossing (schedule (B.meaning book.now).orders most) p }
     requires low { least ≤ p + 1 }
     requires small { most ≤ 10000000 }
-    ensures { Chosen (schedule (meaning book.now).orders most) result }
+    ensures { Chosen (schedule (B.meaning book.now).orders most) result }
 {
     let here = traded_at(book, least, most, p);
     let next = traded_at(book, least, most, p + 1);
@@ -89,7 +89,7 @@ fn price_at<B: OrderBook>(book: &B, least: u32, most: u32, p: u32) -> u32
 
 /// The equilibrium price in ticks, or `None` if no admissible price has volume above 0.
 pub fn equilibrium_price<B: OrderBook>(book: &B, session: Session) -> Option<u32>
-    ensures { result ≡ equilibrium (offered (meaning book.now) session.tick session.scarcity) }
+    ensures { result ≡ equilibrium (offered (B.meaning book.now) session.tick session.scarcity) }
 {
     let buy = book.rank(Side::Buy, 1)?;
     let sell = book.rank(Side::Sell, 1)?;
@@ -104,8 +104,8 @@ pub fn equilibrium_price<B: OrderBook>(book: &B, session: Session) -> Option<u32
 
 /// The price, volume and imbalance that an uncrossing would have now, refused if nothing would trade.
 pub fn indication<B: OrderBook>(book: &B, session: Session) -> Result<Indication, SessionRefusal>
-    ensures answer { result ≡ indication_answer (meaning book.now) session.tick session.scarcity }
-    ensures indicated { Indicated (meaning book.now) session.tick session.scarcity result }
+    ensures answer { result ≡ indication_answer (B.meaning book.now) session.tick session.scarcity }
+    ensures indicated { Indicated (B.meaning book.now) session.tick session.scarcity result }
 {
     let Some(m) = equilibrium_price(book, session) else {
         return Err(SessionRefusal::NoVolume);

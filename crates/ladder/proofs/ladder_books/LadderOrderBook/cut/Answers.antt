@@ -12,7 +12,18 @@ invariant_of-self c =
     let kept = kept_cut b.places b.last (buys_of b.buys.items) (sells_of b.sells.items) (ladder_kept b) (buys_of buys.items) (sells_of sells.items) c.args.number c.args.quantity c.cut_either.result c.cut_either.ensures.both in
     let buy_room = subst (λ cap. b.places ≤ cap) (sym c.cut_either.ensures.buy_capacity) b.buy_room in
     let sell_room = subst (λ cap. b.places ≤ cap) (sym c.cut_either.ensures.sell_capacity) b.sell_room in
-    (b.few, (b.given, (vector_fits b.places _ _ buys.items sells.items buys.ok.0 sells.ok.0 kept.fits, (buy_room, (sell_room, (kept.buys_ranked, (kept.sells_ranked, (kept.buys_sided, (kept.sells_sided, (kept.rises, tt))))))))))
+    record {
+      few = b.few;
+      given = b.given;
+      fits = vector_fits b.places _ _ buys.items sells.items buys.ok.0 sells.ok.0 kept.fits;
+      buy_room = buy_room;
+      sell_room = sell_room;
+      buys_ranked = kept.buys_ranked;
+      sells_ranked = kept.sells_ranked;
+      buys_sided = kept.buys_sided;
+      sells_sided = kept.sells_sided;
+      rises = kept.rises;
+    }
 
 pub returns : goal.returns
 returns c =

@@ -33,7 +33,18 @@ invariant_of-self c =
     let buy_room = subst (λ cap. b.places ≤ cap) (sym c.enqueue_live.ensures.buy_capacity) b.buy_room in
     let sell_room = subst (λ cap. b.places ≤ cap) (sym c.enqueue_live.ensures.sell_capacity) b.sell_room in
     let given : b.last + 1 ≤ 60000 = omega (arith, b.given, c.if-self-eq-LAST_NUMBER.false) in
-    (b.few, (given, (vector_fits b.places _ _ buys.items sells.items buys.ok.0 sells.ok.0 kept.fits, (buy_room, (sell_room, (kept.buys_ranked, (kept.sells_ranked, (kept.buys_sided, (kept.sells_sided, (kept.rises, tt))))))))))
+    record {
+      few = b.few;
+      given = given;
+      fits = vector_fits b.places _ _ buys.items sells.items buys.ok.0 sells.ok.0 kept.fits;
+      buy_room = buy_room;
+      sell_room = sell_room;
+      buys_ranked = kept.buys_ranked;
+      sells_ranked = kept.sells_ranked;
+      buys_sided = kept.buys_sided;
+      sells_sided = kept.sells_sided;
+      rises = kept.rises;
+    }
 
 pub returns : goal.returns
 returns c =

@@ -13,7 +13,18 @@ invariant_of-result c =
     let sold = c.in_ok-sells.ensures in
     let kept : Kept places 0 (buys_of buys.items) (sells_of sells.items) = subst (λ l. Kept places 0 (buys_of l) (sells_of sells.items)) (sym bought.items) (subst (λ l. Kept places 0 [] (sells_of l)) (sym sold.items) (kept_none places)) in
     let few : places ≤ 256 = omega (arith, c.min-places.ensures) in
-    (few, (omega arith, (omega (arith, bought.len, sold.len), (bought.capacity, (sold.capacity, (kept.buys_ranked, (kept.sells_ranked, (kept.buys_sided, (kept.sells_sided, (kept.rises, tt))))))))))
+    record {
+      few = few;
+      given = omega arith;
+      fits = omega (arith, bought.len, sold.len);
+      buy_room = bought.capacity;
+      sell_room = sold.capacity;
+      buys_ranked = kept.buys_ranked;
+      sells_ranked = kept.sells_ranked;
+      buys_sided = kept.buys_sided;
+      sells_sided = kept.sells_sided;
+      rises = kept.rises;
+    }
 
 pub returns : goal.returns
 returns c =

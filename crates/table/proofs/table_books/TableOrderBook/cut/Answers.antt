@@ -12,7 +12,15 @@ invariant_of-self c =
     let rises = cut_rises b.last (orders_of b.orders.items) (orders_of orders.items) c.args.number c.args.quantity c.cut_row.result b.rises kept.orders in
     let order_room = subst (λ cap. b.places ≤ cap) (sym kept.order_capacity) b.order_room in
     let ahead_room = subst (λ cap. b.places ≤ cap) (sym kept.ahead_capacity) b.ahead_room in
-    (b.few, (b.given, (fits, (order_room, (ahead_room, (kept.counts, (rises, tt)))))))
+    record {
+      few = b.few;
+      given = b.given;
+      fits = fits;
+      order_room = order_room;
+      ahead_room = ahead_room;
+      counts = kept.counts;
+      rises = rises;
+    }
 
 pub returns : goal.returns
 returns c =

@@ -45,7 +45,15 @@ invariant_of-self c =
     let rises = ap (λ l. rising 0 l (b.last + 1)) kept.orders ∙ rising_push 0 os b.last o b.rises (omega arith) in
     let order_room = subst (λ cap. b.places ≤ cap) (sym kept.order_capacity) b.order_room in
     let ahead_room = subst (λ cap. b.places ≤ cap) (sym kept.ahead_capacity) b.ahead_room in
-    (b.few, (given, (fits, (order_room, (ahead_room, (kept.counts, (rises, tt)))))))
+    record {
+      few = b.few;
+      given = given;
+      fits = fits;
+      order_room = order_room;
+      ahead_room = ahead_room;
+      counts = kept.counts;
+      rises = rises;
+    }
 
 pub returns : goal.returns
 returns c =

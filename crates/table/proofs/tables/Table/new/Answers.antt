@@ -12,4 +12,12 @@ invariant_of-result c =
     let few : c.min-places.result ≤ 256 = omega (arith, c.min-places.ensures) in
     let counts = counted.items ∙ ap (λ l. aheads_of (orders_of l)) (sym ordered.items) in
     let rises = ap (λ l. rising 0 (orders_of l) 0) ordered.items ∙ none_rises in
-    (few, (omega arith, (omega (arith, ordered.len), (ordered.capacity, (counted.capacity, (counts, (rises, tt)))))))
+    record {
+      few = few;
+      given = omega arith;
+      fits = omega (arith, ordered.len);
+      order_room = ordered.capacity;
+      ahead_room = counted.capacity;
+      counts = counts;
+      rises = rises;
+    }
