@@ -1,8 +1,8 @@
 -- The orders of a side in rank, and the first of them. Assumes nothing.
-use Rattle.std.proofs.Common.{◌≡◌, ℕ, ◌+◌, ◌<◌, ◌≤◌, Bool, true, false, cond, not, ◌&&◌, List, [], ◌∷◌, Some, None, Option, sym, refl, ap, ◌∙◌, subst, ⊎_elim, arith}
+use Rattle.std.proofs.Common.{◌≡◌, ℕ, ◌≤◌, true, false, not, ◌&&◌, List, [], ◌∷◌, Some, None, sym, refl, ap, ◌∙◌, ⊎_elim, arith}
 use Rattle.std.proofs.lemmas.Bool.{cases_Bool, cond-true, cond-false, and_parts, and_from, and_left, and_right, not-true}
 use Rattle.std.proofs.lemmas.Bool.Decides.{nat_tests}
-use Rattle.ranking.specs.Runs.{none_before, in_rank, sorted}
+use Rattle.ranking.specs.Runs.{none_before, in_rank}
 use Rattle.ranking.proofs.Placing.{ranked_cons, none_cons}
 use Rattle.ranking.proofs.Sorting.{Shuffle, none, keep, swap, then, back, shuffle_sorted, sorted_ranked}
 use Rattle.book.specs.declared.orders.Side.{Side}

@@ -1,8 +1,8 @@
 -- The rounded mean is the nearest multiple, and what is computed on the way fits. Assumes nothing.
-use Rattle.std.proofs.Common.{◌≡◌, ℕ, ◌+◌, ◌*◌, ◌/◌, ◌^◌, ◌<◌, ◌≤◌, cond, eqb, ltb, IfSome, Ok, Err, Option, Result, sym, refl, ap, ◌∙◌, subst, mul-le-mul, mul-le-mul_left, div-mul-le_self, arith}
+use Rattle.std.proofs.Common.{◌≡◌, ℕ, ◌+◌, ◌*◌, ◌/◌, ◌^◌, ◌<◌, ◌≤◌, IfSome, Ok, Err, Option, Result, sym, refl, ◌∙◌, subst, mul-le-mul, mul-le-mul_left, div-mul-le_self, arith}
 use native.Mathlib.Nat.{lt-div-mul-add}
 use Rattle.std.specs.Result.{OkIff, result_ok}
-use Rattle.std.proofs.lemmas.Bool.{eq-eqb, ne_eqb, lt-ltb, le-ltb, cases_lt}
+use Rattle.std.proofs.lemmas.Bool.{ne_eqb, lt-ltb, le-ltb}
 use Rattle.session.specs.Rounding.{Nearest, units, nearest, rounded_answer}
 
 pub product_fits : (a b : ℕ) → a < 2 ^ 32 → b < 2 ^ 64 → a * b < 2 ^ 96

@@ -1,4 +1,4 @@
-use Rattle.std.proofs.Common.{◌+◌, ◌*◌, IfSome, sym, ap, ◌∙◌, subst, arith}
+use Rattle.std.proofs.Common.{◌+◌, ◌*◌, IfSome, sym, ◌∙◌, subst, arith}
 use Rattle.session.specs.Rounding.{Nearest}
 use Rattle.session.proofs.Nearness.{product_fits, quotient_fits, answered_by}
 use Rattle.session.proofs.rounding.rounded.Goals as goal
