@@ -1,8 +1,8 @@
 -- What the two prices at the crossing trade decides between them. Assumes nothing.
-use Rattle.std.proofs.Common.{◌≡◌, ℕ, ◌+◌, ◌-◌, ◌<◌, ◌≤◌, min, ◌⊎◌, List, sym, refl, ap, ◌∙◌, inl, inr, ⊎_elim, arith}
+use Rattle.std.proofs.Common.{◌≡◌, ℕ, ◌+◌, ◌<◌, ◌≤◌, ◌⊎◌, List, inl, inr, ⊎_elim, arith}
 use Rattle.std.proofs.lemmas.Bool.{cases_lt}
 use Rattle.book.specs.Meaning.{Order}
-use Rattle.rules.specs.Schedule.{Schedule, schedule, Admissible, volume, size, Positive, Zero}
+use Rattle.rules.specs.Schedule.{Schedule, schedule, Positive, Zero}
 use Rattle.rules.specs.Crossings.{Crossing, Same, LowestSame}
 use Rattle.rules.proofs.Decisions.{Lower, Upper}
 use Rattle.price.specs.Steps.{Crossed, TradedAt, pair_volume, pair_size, GoesUp, Stays}

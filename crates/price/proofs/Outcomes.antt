@@ -10,7 +10,7 @@ use Rattle.rules.proofs.Choices.{chosen_one, chosen_kept, equilibrium_words, unr
 use Rattle.rules.proofs.Curves.{monotone, in_money}
 use Rattle.rules.proofs.Signs.{signed}
 use Rattle.price.specs.declared.indications.Indication.{Indication}
-use Rattle.price.specs.Indications.{told, indication_answer, Best, Priced, Unpriced, Outcome, Indicated}
+use Rattle.price.specs.Indications.{told, indication_answer, Best, Outcome, Indicated}
 
 module _ (b : Book) (tick scarcity : ℕ) where
   pub best : (m : ℕ) → Answered (offered b tick scarcity) (Some m) → Best b tick scarcity m

@@ -1,10 +1,10 @@
 -- What is chosen is one, is kept, is what the letter of the rule answers, and has no better rival. Assumes nothing.
-use Rattle.std.proofs.Common.{◌≡◌, ℕ, zero, suc, ◌+◌, ◌-◌, ◌<◌, ◌≤◌, min, ◌⊎◌, List, Some, None, Option, sym, refl, ap, ◌∙◌, subst, inl, inr, ⊎_elim, arith}
+use Rattle.std.proofs.Common.{◌≡◌, ℕ, zero, suc, ◌+◌, ◌<◌, ◌≤◌, List, Some, None, Option, refl, ap, subst, ⊎_elim, arith}
 use Rattle.std.proofs.lemmas.Bool.{cases_lt}
 use Rattle.book.specs.Meaning.{Order}
 use Rattle.rules.specs.Schedule.{Schedule, schedule, Admissible, volume, size, mean, Positive, Negative, Zero}
 use Rattle.rules.specs.Crossings.{Monotone, Crossing, Same, SignChange}
-use Rattle.rules.specs.Prices.{Fullest, Kept, Highest, Lowest, EachKept, Chosen, NothingTrades, Answered}
+use Rattle.rules.specs.Prices.{Fullest, Kept, Highest, Lowest, Chosen, NothingTrades, Answered}
 use Rattle.rules.specs.Prices.Chosen.{positive, negative, mixed, level}
 use Rattle.rules.specs.Literal.{equilibrium}
 use Rattle.rules.specs.Rivals.{NoRivalAbove}

@@ -3,10 +3,10 @@ use Rattle.std.proofs.Common.{◌≡◌, ℕ, ◌≤◌, Bool, true, false, cond
 use Rattle.std.proofs.lemmas.Bool.{leb-true, le-leb}
 use Rattle.book.specs.declared.orders.Side.{Side}
 use Rattle.book.specs.declared.orders.Side.TheVariants.{Buy, Sell}
-use Rattle.book.specs.Meaning.{Order, is_side, meets, part_of, quantity_at}
+use Rattle.book.specs.Meaning.{Order, is_side, meets, quantity_at}
 use Rattle.book.proofs.Listing.{quantity_nil, quantity_cons}
 use Rattle.session.specs.Openings.{ceiling}
-use Rattle.rules.specs.Schedule.{Schedule, schedule, InMoney}
+use Rattle.rules.specs.Schedule.{schedule, InMoney}
 use Rattle.rules.specs.Crossings.{Monotone}
 
 -- every order of a side that trades at m trades at n too

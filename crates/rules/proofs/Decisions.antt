@@ -1,10 +1,10 @@
 -- What the two prices at the crossing decide. Assumes nothing.
-use Rattle.std.proofs.Common.{◌≡◌, ℕ, ◌+◌, ◌-◌, ◌/◌, ◌<◌, ◌≤◌, min, ◌⊎◌, sym, refl, ap, ◌∙◌, inl, inr, ⊎_elim, arith}
+use Rattle.std.proofs.Common.{◌≡◌, ℕ, ◌+◌, ◌<◌, ◌≤◌, ◌⊎◌, refl, inl, inr, ⊎_elim, arith}
 use Rattle.std.proofs.lemmas.Bool.{cases_lt}
 use Rattle.rules.specs.Schedule.{Schedule, Admissible, volume, size, mean, Positive, Negative, Zero}
-use Rattle.rules.specs.Prices.{Fullest, Kept, Highest, Lowest, EachKept, Chosen}
+use Rattle.rules.specs.Prices.{Kept, Chosen}
 use Rattle.rules.specs.Prices.Chosen.{positive, negative, mixed, level}
-use Rattle.rules.specs.Crossings.{Monotone, Crossing, Same, LowestSame}
+use Rattle.rules.specs.Crossings.{Monotone, Crossing, LowestSame}
 use Rattle.rules.proofs.Keeping.{kept_same, kept_like}
 
 -- p trades, and the price above it, if there is one, trades less, or as much at a larger imbalance

@@ -1,21 +1,20 @@
 -- The trades of a volume at a price: they are fills, each in turn fits, and what they leave. Assumes nothing.
-use Rattle.std.proofs.Common.{◌≡◌, ℕ, zero, suc, ◌+◌, ◌-◌, ◌<◌, ◌≤◌, min, Bool, true, false, cond, ◌||◌, eqb, List, [], ◌∷◌, ◌++◌, length, Some, None, Option, sym, refl, ap, ◌∙◌, subst, arith}
-use Rattle.std.proofs.lemmas.Bool.{eqb-true, eqb-false, ne_eqb, cond_both, cond-false}
+use Rattle.std.proofs.Common.{◌≡◌, ℕ, zero, suc, ◌+◌, ◌-◌, ◌<◌, ◌≤◌, min, Bool, true, false, cond, ◌||◌, eqb, List, [], ◌∷◌, length, Some, sym, refl, ap, ◌∙◌, subst, arith}
+use Rattle.std.proofs.lemmas.Bool.{eqb-true, ne_eqb, cond_both, cond-false}
 use Rattle.note.specs.declared.trades.Trade.{Trade}
 use Rattle.ranking.proofs.Sorting.{Other, Apart, apart_shuffle, back, shuffle_sorted}
 use Rattle.book.specs.declared.orders.Side.{Side}
 use Rattle.book.specs.declared.orders.Side.TheVariants.{Buy, Sell}
-use Rattle.book.specs.Meaning.{Order, is_side, meets, quantity_at, find_in, cut_in}
+use Rattle.book.specs.Meaning.{Order, quantity_at, find_in, cut_in}
 use Rattle.book.specs.Ranks.{before, of_side, ranked}
 use Rattle.book.proofs.Listing.{side_apart}
 use Rattle.book.proofs.Turns.{number_of, lessened}
-use Rattle.rules.specs.Schedule.{schedule, volume}
 use Rattle.rules.specs.Rivals.{In, LiveAt, Each, traded, total, Fills}
-use Rattle.rules.specs.Trades.{Fill, fill, listed, fills, front, pairs_by, pairs, trades_at, settle, after_trades, counted, resting}
+use Rattle.rules.specs.Trades.{Fill, listed, fills, front, pairs_by, pairs, trades_at, settle, after_trades, counted, resting}
 use Rattle.rules.specs.Holding.{Holds, Fits}
-use Rattle.rules.proofs.Sums.{each_as, each_both, each_ranked, each_in, found_each, each_at, weigh, weigh_both, weigh_le, taken_at, taken_ranked, firsts_ranked, other_each}
-use Rattle.rules.proofs.Laying.{fill_total, fill_of, if_same, if_same_split, each_listed, fills_total, fills_of, fills_each, fills_take, taken_le, fills_length}
-use Rattle.rules.proofs.Pairing.{traded_of, party, paired, fewer, some, parties}
+use Rattle.rules.proofs.Sums.{each_as, each_both, each_ranked, each_in, found_each, each_at, weigh, weigh_both, taken_ranked, firsts_ranked, other_each}
+use Rattle.rules.proofs.Laying.{fill_total, if_same, each_listed, fills_total, fills_of, fills_each, fills_take, taken_le, fills_length}
+use Rattle.rules.proofs.Pairing.{traded_of, paired, fewer, some, parties}
 use Rattle.rules.proofs.Cutting.{same_order, found_other, found_same, cut_rest}
 
 abbrev pub Open : Side → List Order → Fill → Type 0

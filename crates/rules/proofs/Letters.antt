@@ -1,9 +1,9 @@
 -- The equilibrium answer is what the relation has. Assumes nothing.
-use Rattle.std.proofs.Common.{◌≡◌, ℕ, zero, suc, ◌+◌, ◌-◌, ◌<◌, ◌≤◌, min, max, Bool, true, false, cond, eqb, ltb, ◌⊎◌, List, [], ◌∷◌, Some, None, Option, sym, refl, ap, ◌∙◌, subst, inl, inr, ⊎_elim, arith}
-use Rattle.std.proofs.lemmas.Bool.{cases_lt, cases_order, eqb-true, eq-eqb, ltb-true, lt-ltb}
-use Rattle.rules.specs.Schedule.{Schedule, Admissible, volume, size, mean, Positive, Negative, Zero}
-use Rattle.rules.specs.Literal.{prices, keep, largest, smallest, highest, lowest, tie, fullest, least, evenest, tied, by_size, by_volume, equilibrium}
-use Rattle.rules.specs.Prices.{Fullest, Kept, Highest, Lowest, EachKept, Chosen, NothingTrades, Answered}
+use Rattle.std.proofs.Common.{◌≡◌, ℕ, zero, suc, ◌≤◌, Bool, eqb, ltb, List, [], ◌∷◌, refl, ◌∙◌, subst, inl, ⊎_elim, arith}
+use Rattle.std.proofs.lemmas.Bool.{cases_order, eqb-true, eq-eqb, ltb-true, lt-ltb}
+use Rattle.rules.specs.Schedule.{Schedule, Admissible, volume, size, Positive, Negative, Zero}
+use Rattle.rules.specs.Literal.{prices, keep, largest, highest, lowest, tie, least, evenest, by_size, by_volume, equilibrium}
+use Rattle.rules.specs.Prices.{Fullest, Kept, Highest, Lowest, EachKept, Chosen, Answered}
 use Rattle.rules.specs.Prices.Chosen.{positive, negative, mixed, level}
 use Rattle.rules.proofs.Keeping.{kept_same}
 use Rattle.rules.proofs.Lists.{Among, prices_all, prices_only, keep_only, keep_all, Reached, largest_bound, largest_some, largest_reached, smallest_bound, smallest_reached}

@@ -1,10 +1,10 @@
 -- No fills at a price total more than its volume: trades are counted by the orders of either side. Assumes nothing.
-use Rattle.std.proofs.Common.{◌≡◌, ℕ, ◌+◌, ◌≤◌, min, Bool, true, false, cond, ◌&&◌, ◌||◌, eqb, ◌⊎◌, List, [], ◌∷◌, sym, refl, ap, ◌∙◌, inl, inr, arith}
+use Rattle.std.proofs.Common.{◌≡◌, ℕ, ◌+◌, ◌≤◌, Bool, true, false, cond, ◌&&◌, ◌||◌, eqb, List, [], ◌∷◌, sym, refl, ap, ◌∙◌, inl, inr, arith}
 use Rattle.std.proofs.lemmas.Bool.{eq-eqb, and_from}
 use Rattle.note.specs.declared.trades.Trade.{Trade}
 use Rattle.book.specs.declared.orders.Side.{Side}
 use Rattle.book.specs.declared.orders.Side.TheVariants.{Buy, Sell}
-use Rattle.book.specs.Meaning.{Order, is_side, meets, part_of, quantity_at}
+use Rattle.book.specs.Meaning.{Order, is_side, meets, quantity_at}
 use Rattle.book.proofs.Listing.{quantity_nil, quantity_cons}
 use Rattle.rules.specs.Schedule.{schedule, volume}
 use Rattle.rules.specs.Rivals.{In, LiveAt, Each, traded, total, Fills}

@@ -1,6 +1,6 @@
 -- The trades of a volume take all but one of the orders that they are fewer than. Assumes nothing.
-use Rattle.std.proofs.Common.{◌≡◌, ℕ, zero, suc, ◌+◌, ◌-◌, ◌<◌, ◌≤◌, min, Bool, true, false, cond, eqb, List, [], ◌∷◌, ◌++◌, length, Some, sym, refl, ap, ◌∙◌, subst, ⊎_elim, arith}
-use Rattle.std.proofs.lemmas.Bool.{cases_lt, cases_eq, cond_both, cond-true, eq-eqb, eqb-true, eqb-false}
+use Rattle.std.proofs.Common.{◌≡◌, ℕ, zero, suc, ◌+◌, ◌-◌, ◌<◌, ◌≤◌, min, true, eqb, List, [], ◌∷◌, ◌++◌, length, Some, sym, refl, ap, ◌∙◌, ⊎_elim, arith}
+use Rattle.std.proofs.lemmas.Bool.{cases_lt, cases_eq, cond_both, cond-true, eq-eqb, eqb-false}
 use Rattle.note.specs.declared.trades.Trade.{Trade}
 use Rattle.ranking.proofs.Sorting.{Apart}
 use Rattle.book.specs.declared.orders.Side.{Side}
@@ -11,11 +11,11 @@ use Rattle.book.proofs.Listing.{length_cut}
 use Rattle.book.proofs.Standing.{find_later}
 use Rattle.book.proofs.Turns.{number_of, lessened, cut_here, cut_later}
 use Rattle.rules.specs.Rivals.{Each}
-use Rattle.rules.specs.Trades.{Fill, fill, listed, fills, front, pairs_by, pairs, trades_at, settle, after_trades}
+use Rattle.rules.specs.Trades.{Fill, fill, listed, fills, front, pairs_by, trades_at, settle, after_trades}
 use Rattle.rules.proofs.Sums.{each_as}
 use Rattle.rules.proofs.Laying.{fills_zero}
 use Rattle.rules.proofs.Cutting.{same_order, none_found, found_other, found_same}
-use Rattle.rules.proofs.Fitting.{Open, OtherFill, Both, both_left, both_open, other_side, open_other, open_left, buy_sell, found_ranked}
+use Rattle.rules.proofs.Fitting.{OtherFill, Both, both_left, both_open, other_side, open_other, open_left, buy_sell, found_ranked}
 
 -- a fill of all that its order holds
 record Whole (os : List Order) (f : Fill) : Type 0 where

@@ -1,6 +1,6 @@
 -- Lists of orders: what is so of each, sums over them, and the same of a side in rank. Assumes nothing.
-use Rattle.std.proofs.Common.{◌≡◌, ℕ, suc, ◌+◌, ◌≤◌, Bool, true, false, cond, not, ◌&&◌, eqb, ◌⊎◌, List, [], ◌∷◌, Some, None, Option, sym, refl, ap, ◌∙◌, subst, inl, inr, ⊎_elim, arith}
-use Rattle.std.proofs.lemmas.Bool.{cases_Bool, cond-true, cond-false, and_parts, not-true, eq-eqb, ne_eqb, both_ways}
+use Rattle.std.proofs.Common.{◌≡◌, ℕ, ◌+◌, ◌≤◌, Bool, true, false, cond, not, ◌&&◌, List, [], ◌∷◌, Some, sym, refl, ◌∙◌, subst, inl, inr, arith}
+use Rattle.std.proofs.lemmas.Bool.{and_parts, not-true}
 use Rattle.ranking.specs.Runs.{none_before, in_rank}
 use Rattle.ranking.proofs.Placing.{ranked_cons, none_cons}
 use Rattle.ranking.proofs.Sorting.{Shuffle, none, keep, swap, then, back, shuffle_sorted, Other, Apart}

@@ -1,4 +1,4 @@
-use Rattle.std.proofs.Common.{◌≡◌, ◌≤◌, min, Some, None, sym, ap, ◌∙◌, arith}
+use Rattle.std.proofs.Common.{◌≤◌, min, Some, None, sym, ap, ◌∙◌, arith}
 use Rattle.book.specs.Meaning.{order_of}
 use Rattle.session.specs.Openings.{ceiling}
 use Rattle.rules.proofs.Choices.{equilibrium_is}

@@ -1,6 +1,6 @@
 use Rattle.std.proofs.Common.{arith}
 use Rattle.rules.proofs.Curves.{monotone}
-use Rattle.price.proofs.Bisections.{narrows_all, narrows_down, narrows_up, lowest_found}
+use Rattle.price.proofs.Bisections.{narrows_all, narrows_up, lowest_found}
 use Rattle.price.proofs.searches.lowest_same.Goals as goal
 
 pub loop-low-init : goal.loop-low-init
