@@ -1,7 +1,7 @@
 -- The price in the middle of a survey in rank halves it. Assumes nothing.
 use Rattle.std.proofs.Common.{◌≡◌, ℕ, zero, suc, ◌+◌, ◌*◌, ◌<◌, ◌≤◌, Bool, true, cond, not, ◌&&◌, eqb, ltb, leb, List, [], ◌∷◌, length, All, count_by, sym, ap, ◌∙◌, ⊎_elim, arith}
 use Rattle.std.proofs.lemmas.List.Sums.{sum_by-cons}
-use Rattle.std.proofs.lemmas.List.Elements.{All-get_or, All-map, All-weaker}
+use Rattle.std.proofs.lemmas.List.Elements.{All-nil, All-cons, All-head, All-tail, All-get_or, All-map, All-weaker}
 use Rattle.std.proofs.lemmas.List.{length-map}
 use Rattle.std.proofs.lemmas.Bool.{and_parts, or_parts, not-true, ltb-false, leb-true, le-leb, cases_Bool}
 use Rattle.ranking.specs.declared.surveys.SurveyPrice.{SurveyPrice}
@@ -21,7 +21,9 @@ module _ {X : Type 0} where
 
   count_all : (p : X → Bool) (xs : List X) → All (λ x. p x ≡ true) xs → length xs ≤ count_by p xs
   count_all p [] all = omega arith
-  count_all p (x ∷ xs) all = omega (arith, count_yes p x xs all.0, count_all p xs all.1)
+  count_all p (x ∷ xs) all =
+      let P = λ (y : X). p y ≡ true in
+      omega (arith, count_yes p x xs (All-head P x xs all), count_all p xs (All-tail P x xs all))
 
   pub count_weaker : (p q : X → Bool) → ((x : X) → p x ≡ true → q x ≡ true) → (xs : List X) → count_by p xs ≤ count_by q xs
   count_weaker p q h [] = omega arith
@@ -32,11 +34,11 @@ module _ {X : Type 0} where
 
 -- a survey in rank: what comes later is not lower
 not_lower : (item : SurveyPrice) (survey : List SurveyPrice) → none_before survey_before item survey ≡ true → All (λ later. item.price ≤ later.price) survey
-not_lower item [] none = tt
+not_lower item [] none = All-nil (λ later. item.price ≤ later.price)
 not_lower item (later ∷ survey) none =
     let both = and_parts (not (survey_before later item)) (none_before survey_before item survey) (sym (none_cons survey_before item later survey) ∙ none) in
     let lower = or_parts (ltb later.price item.price) (eqb later.price item.price && ltb later.contributor item.contributor) (not-true (survey_before later item) both.0) in
-    (ltb-false later.price item.price lower.0, not_lower item survey both.1)
+    All-cons (λ later. item.price ≤ later.price) later survey (ltb-false later.price item.price lower.0) (not_lower item survey both.1)
 
 rises : (item : SurveyPrice) (survey : List SurveyPrice) → in_rank survey_before (item ∷ survey) ≡ true → All (λ later. item.price ≤ later.price) survey × (in_rank survey_before survey ≡ true)
 rises item survey ranked =
@@ -65,7 +67,7 @@ pub many_at_least : (survey : List SurveyPrice) (k : ℕ) → in_rank survey_bef
 many_at_least [] k ranked inside = absurd (omega arith)
 many_at_least (item ∷ survey) zero ranked inside =
     let none_lower = All-weaker (λ later. item.price ≤ later.price) (λ later. leb item.price later.price ≡ true) (λ later h. le-leb item.price later.price h) survey (rises item survey ranked).0 in
-    omega (arith, count_all (λ x. leb item.price x.price) (item ∷ survey) (le-leb item.price item.price (omega arith), none_lower))
+    omega (arith, count_all (λ x. leb item.price x.price) (item ∷ survey) (All-cons (λ x. leb item.price x.price ≡ true) item survey (le-leb item.price item.price (omega arith)) none_lower))
 many_at_least (item ∷ survey) (suc k) ranked inside =
     let up = rises item survey ranked in
     omega (arith, count_rest (λ x. leb (price_at survey k) x.price) item survey, many_at_least survey k up.1 (omega arith))

@@ -1,6 +1,7 @@
 -- What is so of everything that a closing price is given, once it is judged. Assumes nothing.
 use Rattle.std.proofs.Common.{◌≡◌, ℕ, ◌≤◌, true, ◌&&◌, leb, List, [], ◌∷◌, length, Ok, All, sym, ◌∙◌}
 use Rattle.std.proofs.lemmas.Bool.{and_parts, leb-true}
+use Rattle.std.proofs.lemmas.List.Elements.{All-nil, All-cons}
 use Rattle.session.specs.Judgements.{OnTick}
 use Rattle.session.proofs.Judging.{both_passed, test_passed, price_on_tick}
 use Rattle.ranking.specs.Runs.{in_rank}
@@ -25,10 +26,10 @@ sound tick trade is =
 
 -- of each item of a list
 each : {X : Type 0} (judged : X → Judgement) (P : X → Type 0) → ((x : X) → judged x ≡ Ok tt → P x) → (xs : List X) → judged_each judged xs ≡ Ok tt → All P xs
-each judged P tells [] is = tt
+each judged P tells [] is = All-nil P
 each judged P tells (x ∷ xs) is =
     let parts = both_passed (judged x) (judged_each judged xs) tt (sym (each_cons judged x xs) ∙ is) in
-    (tells x parts.0, each judged P tells xs parts.1)
+    All-cons P x xs (tells x parts.0) (each judged P tells xs parts.1)
 
 pub record Legal (tick : ℕ) (inputs : ClosingInputs) : Type 0 where
   pub few_trades : length inputs.trades.now ≤ 1024

@@ -1,7 +1,7 @@
 -- What trades come to, summed one by one. Assumes nothing.
 use Rattle.std.proofs.Common.{◌≡◌, ℕ, ◌+◌, ◌*◌, ◌<◌, ◌≤◌, List, [], ◌∷◌, length, get_or, drop, All, sym, refl, ap, ◌∙◌, mul-le-mul_right, mul-add, arith}
 use Rattle.std.proofs.lemmas.List.{drop_more, drop_all}
-use Rattle.std.proofs.lemmas.List.Elements.{All-weaker}
+use Rattle.std.proofs.lemmas.List.Elements.{All-head, All-tail, All-weaker}
 use Rattle.closing.specs.declared.inputs.PricedTrade.{PricedTrade}
 use Rattle.closing.specs.declared.inputs.ClosingInputs.{ClosingInputs}
 use Rattle.closing.specs.Criteria.{worth_of, contracts_of}
@@ -39,24 +39,28 @@ module _ (trades : List PricedTrade) (i : ℕ) where
 pub contracts_some : (tick : ℕ) (trades : List PricedTrade) → All (Sound tick) trades → length trades ≤ contracts_of trades
 unfolding contracts_of
 contracts_some tick [] sound = omega arith
-contracts_some tick (trade ∷ trades) sound = omega (arith, sound.0.some, contracts_some tick trades sound.1)
+contracts_some tick (trade ∷ trades) sound = omega (arith, (All-head (Sound tick) trade trades sound).some, contracts_some tick trades (All-tail (Sound tick) trade trades sound))
 
 pub contracts_few : (tick : ℕ) (trades : List PricedTrade) → All (Sound tick) trades → contracts_of trades ≤ 6858 * length trades
 unfolding contracts_of
 contracts_few tick [] sound = omega arith
-contracts_few tick (trade ∷ trades) sound = omega (arith, sound.0.few, contracts_few tick trades sound.1)
+contracts_few tick (trade ∷ trades) sound = omega (arith, (All-head (Sound tick) trade trades sound).few, contracts_few tick trades (All-tail (Sound tick) trade trades sound))
 
 -- the mean is at most what every price is at most, ..
 pub worth_below : (high : ℕ) (trades : List PricedTrade) → All (λ trade. trade.price ≤ high) trades → worth_of trades ≤ high * contracts_of trades
 unfolding worth_of contracts_of
 worth_below high [] below = omega arith
-worth_below high (trade ∷ trades) below = omega (arith, mul-add high trade.quantity (contracts_of trades), mul-le-mul_right {m = trade.price} {n = high} trade.quantity below.0, worth_below high trades below.1)
+worth_below high (trade ∷ trades) below =
+    let P = λ (t : PricedTrade). t.price ≤ high in
+    omega (arith, mul-add high trade.quantity (contracts_of trades), mul-le-mul_right {m = trade.price} {n = high} trade.quantity (All-head P trade trades below), worth_below high trades (All-tail P trade trades below))
 
 -- .. and at least what every price is at least
 pub worth_above : (low : ℕ) (trades : List PricedTrade) → All (λ trade. low ≤ trade.price) trades → low * contracts_of trades ≤ worth_of trades
 unfolding worth_of contracts_of
 worth_above low [] above = omega arith
-worth_above low (trade ∷ trades) above = omega (arith, mul-add low trade.quantity (contracts_of trades), mul-le-mul_right {m = low} {n = trade.price} trade.quantity above.0, worth_above low trades above.1)
+worth_above low (trade ∷ trades) above =
+    let P = λ (t : PricedTrade). low ≤ t.price in
+    omega (arith, mul-add low trade.quantity (contracts_of trades), mul-le-mul_right {m = low} {n = trade.price} trade.quantity (All-head P trade trades above), worth_above low trades (All-tail P trade trades above))
 
 -- so many contracts, and a mean of at most 10,000,000
 pub record Fit (inputs : ClosingInputs) : Type 0 where

@@ -45,7 +45,7 @@ impl Judged for SurveyPrice {
 
 /// Judges each item in turn.
 fn judge_each<T: Judged>(session: Session, items: &[T]) -> Result<(), ClosingRefusal>
-    ensures { result ≡ judged_each (judged session.tick) items.now }
+    ensures { result ≡ judged_each (T.judged session.tick) items.now }
 {
     for item in items {
         item.judge(session)?;

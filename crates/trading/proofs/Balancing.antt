@@ -1,5 +1,5 @@
 -- On each side what is entered is cut, withdrawn, traded or rests, over every list of calls from a fresh book. Assumes nothing.
-use Rattle.std.proofs.Common.{◌≡◌, ℕ, suc, ◌+◌, ◌-◌, ◌<◌, ◌≤◌, min, Bool, true, false, cond, ◌||◌, eqb, ltb, leb, List, [], ◌∷◌, ◌++◌, length, IfOk, Some, None, Ok, Err, Option, Result, sym, refl, ap, ◌∙◌, subst, arith}
+use Rattle.std.proofs.Common.{◌≡◌, ℕ, ◌+◌, ◌-◌, ◌<◌, ◌≤◌, Bool, true, false, cond, ◌||◌, eqb, ltb, List, [], ◌∷◌, length, IfOk, Some, None, Ok, Err, Option, Result, sym, refl, ap, ◌∙◌, subst, arith}
 use Rattle.std.proofs.lemmas.Bool.{eq-eqb, ne_eqb, le-leb, cond-true, cond-false, cond_both, ltb-false, or_parts}
 use Rattle.note.specs.declared.trades.Trade.{Trade}
 use Rattle.session.specs.declared.refusals.SessionRefusal.{SessionRefusal}
@@ -7,11 +7,11 @@ use Rattle.session.specs.declared.refusals.SessionRefusal.TheVariants.{RegisterS
 use Rattle.book.specs.declared.orders.Side.{Side}
 use Rattle.book.specs.declared.refusals.BookRefusal.{BookRefusal}
 use Rattle.book.specs.declared.refusals.BookRefusal.TheVariants.{Full, NumbersSpent, CutRange}
-use Rattle.book.specs.Meaning.{Book, Order, rising, enter_answer, find_in, found, cut_answer, cut_judged, cut_in, cut}
+use Rattle.book.specs.Meaning.{Book, Order, rising, enter_answer, find_in, found, cut_answer, cut_judged, cut}
 use Rattle.book.proofs.Listing.{rising_cut, rising_push, rising_apart}
 use Rattle.rules.specs.Schedule.{Schedule, offered, volume}
 use Rattle.rules.specs.Literal.{equilibrium}
-use Rattle.rules.specs.Rivals.{Each, total, traded}
+use Rattle.rules.specs.Rivals.{total, traded}
 use Rattle.rules.specs.Trades.{trades_at, after_trades, counted, resting}
 use Rattle.rules.specs.Holding.{Fits}
 use Rattle.rules.proofs.Sums.{each_all}
@@ -23,7 +23,7 @@ use Rattle.trading.specs.declared.calls.Call.{Call}
 use Rattle.trading.specs.declared.calls.Call.TheVariants.{Entry, Cut, Withdrawal, Indication as AskIndication, Uncrossing}
 use Rattle.trading.specs.declared.refusals.Refusal.{Refusal}
 use Rattle.trading.specs.declared.refusals.Refusal.TheVariants.{Session as OfSession}
-use Rattle.trading.specs.Replies.{Reply, entered, was_cut, withdrawn, indicated, uncrossed, refused, Outcome, entry_limit, with_order, entry_by_book, entry_by_session, cut_by_book, withdrawal_of, indication_of, heading, crossing_of, uncrossing_at, outcome, replies, after_all}
+use Rattle.trading.specs.Replies.{Reply, uncrossed, refused, Outcome, entry_limit, with_order, entry_by_book, entry_by_session, cut_by_book, withdrawal_of, indication_of, heading, crossing_of, uncrossing_at, outcome, replies, after_all}
 use Rattle.trading.specs.Law.{Entered, entry, new_entry, first_of, entry_of, of_entry, rest_of, entered_by, cut_by, traded_by, withdrawn_by, taken_by, sum_of, withdrawn_sum, taken_total, Conserved, Fresh}
 use Rattle.trading.proofs.Knowing.{Entries, Known, entered_as, known_as, same_zero, known_cut, known_gone, found_known, found_le, rising_trades, known_trades, traded_above, resting_more, known_more}
 

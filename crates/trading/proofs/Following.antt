@@ -1,5 +1,5 @@
 -- What each call keeps: rising numbers, few orders, and that each uncrossing is best; and the law. Assumes nothing.
-use Rattle.std.proofs.Common.{◌≡◌, ℕ, ◌+◌, ◌<◌, ◌≤◌, min, Bool, true, false, cond, ◌&&◌, ltb, leb, List, [], ◌∷◌, ◌++◌, length, Some, None, Ok, Err, Option, Result, sym, refl, ap, ◌∙◌, subst, arith, length-append}
+use Rattle.std.proofs.Common.{◌≡◌, ℕ, ◌+◌, ◌≤◌, Bool, true, false, cond, ◌&&◌, ltb, leb, List, [], ◌∷◌, length, Some, None, Ok, Err, Option, Result, sym, refl, subst, arith, length-append}
 use Rattle.std.proofs.lemmas.Bool.{cond_both}
 use Rattle.note.specs.declared.trades.Trade.{Trade}
 use Rattle.session.specs.declared.refusals.SessionRefusal.{SessionRefusal}
@@ -10,25 +10,23 @@ use Rattle.session.specs.Judgements.{price_judged}
 use Rattle.session.specs.Openings.{ceiling}
 use Rattle.book.specs.declared.orders.Side.{Side}
 use Rattle.book.specs.declared.refusals.BookRefusal.{BookRefusal}
-use Rattle.book.specs.Meaning.{Book, Order, rising, enter_answer, found, cut_answer, cut}
+use Rattle.book.specs.Meaning.{Book, Order, rising, enter_answer, found, cut_answer}
 use Rattle.book.proofs.Listing.{rising_cut, rising_push, rising_apart, length_cut}
-use Rattle.rules.specs.Schedule.{Schedule, offered, volume}
+use Rattle.rules.specs.Schedule.{offered, volume}
 use Rattle.rules.specs.Literal.{equilibrium}
 use Rattle.rules.specs.Prices.{Answered}
-use Rattle.rules.specs.Rivals.{NoRivalAbove, total}
-use Rattle.rules.specs.Trades.{trades_at, after_trades}
+use Rattle.rules.specs.Trades.{trades_at}
 use Rattle.rules.proofs.Choices.{equilibrium_words, no_rival}
-use Rattle.rules.proofs.Fitting.{trades_stand, trades_few}
+use Rattle.rules.proofs.Fitting.{trades_stand}
 use Rattle.rules.proofs.Shrinking.{trades_shrink}
-use Rattle.price.specs.declared.indications.Indication.{Indication}
-use Rattle.price.specs.Indications.{indication_answer, told, Best, Priced}
+use Rattle.price.specs.Indications.{told}
 use Rattle.price.proofs.Outcomes.{best}
 use Rattle.trading.specs.declared.calls.Call.{Call}
 use Rattle.trading.specs.declared.calls.Call.TheVariants.{Entry, Cut, Withdrawal, Indication as AskIndication, Uncrossing}
 use Rattle.trading.specs.declared.refusals.Refusal.{Refusal}
 use Rattle.trading.specs.declared.refusals.Refusal.TheVariants.{Book as OfBook, Session as OfSession}
-use Rattle.trading.specs.Replies.{Reply, entered, was_cut, withdrawn, indicated, uncrossed, refused, Outcome, price_limit, entry_limit, with_order, entry_by_book, entry_by_session, cut_by_book, withdrawal_of, indication_of, heading, crossing_of, uncrossing_at, trades_of, outcome, replies, after_all, register_after}
-use Rattle.trading.specs.Law.{Filled, IdleFor, Idle, Unrivalled, RightlyPriced, Throughout, Conserved, Fresh, Law}
+use Rattle.trading.specs.Replies.{Reply, refused, Outcome, price_limit, entry_limit, entry_by_book, entry_by_session, cut_by_book, withdrawal_of, indication_of, heading, crossing_of, uncrossing_at, trades_of, outcome, replies, after_all, register_after}
+use Rattle.trading.specs.Law.{IdleFor, Idle, Unrivalled, RightlyPriced, Throughout, Conserved, Law}
 use Rattle.trading.proofs.Balancing.{conserved}
 use Rattle.trading.proofs.Knowing.{rising_trades}
 

@@ -1,16 +1,15 @@
 -- Each live order is its entry less what was taken from it: kept by a cut, a withdrawal, trades and an entry. Assumes nothing.
-use Rattle.std.proofs.Common.{◌≡◌, ℕ, suc, ◌+◌, ◌-◌, ◌<◌, ◌≤◌, Bool, true, false, cond, ◌||◌, eqb, List, [], ◌∷◌, ◌++◌, Some, None, Option, sym, refl, ap, ◌∙◌, subst, ⊎_elim, arith}
+use Rattle.std.proofs.Common.{◌≡◌, ℕ, ◌+◌, ◌<◌, ◌≤◌, Bool, true, false, cond, ◌||◌, eqb, List, [], ◌∷◌, ◌++◌, Some, Option, sym, refl, ap, ◌∙◌, subst, ⊎_elim, arith}
 use Rattle.std.proofs.lemmas.Bool.{cases_lt, eqb-true, eqb-false, eq-eqb, ne_eqb, cond_both, cond-true, cond-false}
 use Rattle.note.specs.declared.trades.Trade.{Trade}
 use Rattle.ranking.proofs.Sorting.{Other, Apart}
 use Rattle.book.specs.declared.orders.Side.{Side}
-use Rattle.book.specs.declared.orders.Side.TheVariants.{Buy, Sell}
 use Rattle.book.specs.Meaning.{Order, find_in, cut_in, left_of, rising}
 use Rattle.book.proofs.Listing.{rising_cut, rising_below_all}
 use Rattle.book.proofs.Turns.{number_of, lessened, find_other, apart_cut}
 use Rattle.rules.specs.Rivals.{Each, traded}
 use Rattle.rules.specs.Trades.{settle, after_trades, counted, resting}
-use Rattle.rules.specs.Holding.{Holds, Fits}
+use Rattle.rules.specs.Holding.{Fits}
 use Rattle.rules.proofs.Sums.{each_as, each_both, each_all, other_each}
 use Rattle.rules.proofs.Laying.{if_same}
 use Rattle.rules.proofs.Cutting.{same_order, none_found}
