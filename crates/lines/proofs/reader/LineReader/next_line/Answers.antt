@@ -22,7 +22,7 @@ pub overflow_add-self : goal.overflow_add-self
 overflow_add-self c = omega (arith, rest_within _ _ _ c.line_len.ensures c.line.new.self.inside)
 
 pub invariant_of-self : goal.invariant_of-self
-invariant_of-self c = (rest_within _ _ _ c.line_len.ensures c.line.new.self.inside, tt)
+invariant_of-self c = record { inside = rest_within _ _ _ c.line_len.ensures c.line.new.self.inside }
 
 pub returns : goal.returns
 returns c =

@@ -6,7 +6,7 @@ pub overflow_add-self : goal.overflow_add-self
 overflow_add-self c = omega (arith, c.in_ok-next.ensures.0)
 
 pub invariant_of-self : goal.invariant_of-self
-invariant_of-self c = (omega (arith, c.in_ok-next.ensures.0), tt)
+invariant_of-self c = record { inside = omega (arith, c.in_ok-next.ensures.0) }
 
 pub returns-in_err-next : goal.returns-in_err-next
 returns-in_err-next c = rw c.from_residual.ensures (no_byte (λ inside e. omega (arith, c.in_err-next.ensures)))

@@ -13,7 +13,7 @@ pub overflow_add-self : goal.overflow_add-self
 overflow_add-self c = omega (arith, c.in_ok-letter.ensures.0)
 
 pub invariant_of-self : goal.invariant_of-self
-invariant_of-self c = (omega (arith, c.in_ok-letter.ensures.0), tt)
+invariant_of-self c = record { inside = omega (arith, c.in_ok-letter.ensures.0) }
 
 pub returns-in_err-letter : goal.returns-in_err-letter
 returns-in_err-letter c =
