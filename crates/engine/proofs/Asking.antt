@@ -1,5 +1,5 @@
 -- What the book and the session answer, as the outcome of a call. Assumes nothing.
-use Rattle.std.proofs.Common.{◌≡◌, ℕ, ◌+◌, ◌*◌, ◌<◌, ◌≤◌, Bool, true, false, cond, ◌&&◌, ◌||◌, eqb, ltb, leb, ◌⊎◌, Some, None, Ok, Err, Option, Result, sym, refl, ap, ◌∙◌, subst, ⊎_elim, mul-le-mul_left, zero-mul, arith}
+use Rattle.std.proofs.Common.{◌≡◌, ℕ, ◌*◌, ◌<◌, ◌≤◌, Bool, true, false, cond, ◌&&◌, ◌||◌, eqb, ltb, leb, ◌⊎◌, Some, None, Ok, Err, Result, sym, refl, ap, ◌∙◌, ⊎_elim, mul-le-mul_left, zero-mul, arith}
 use Rattle.std.proofs.lemmas.Bool.{cases_lt, lt-leb, le-leb, ne_eqb, le-ltb, or_from, and_from, and_left, and_right, cond-true, cond-false}
 use Rattle.session.specs.declared.refusals.SessionRefusal.{SessionRefusal}
 use Rattle.session.specs.declared.refusals.SessionRefusal.TheVariants.{QuantityRange}
@@ -12,9 +12,8 @@ use Rattle.book.specs.declared.orders.Body.{Body}
 use Rattle.book.specs.declared.orders.Side.{Side}
 use Rattle.book.specs.declared.refusals.BookRefusal.{BookRefusal}
 use Rattle.book.specs.declared.refusals.BookRefusal.TheVariants.{UnknownOrder}
-use Rattle.book.specs.Meaning.{Book, Order, unless_refused, enter_answer, enter_after, entered as with-body, under, found, cut, cut_answer, cut_after, cut_judged}
+use Rattle.book.specs.Meaning.{Book, Order, unless_refused, enter_answer, enter_after, entered as with-body, found, cut, cut_answer, cut_after, cut_judged}
 use Rattle.trading.specs.declared.calls.Call.TheVariants.{Entry, Cut, Withdrawal}
-use Rattle.trading.specs.declared.refusals.Refusal.{Refusal}
 use Rattle.trading.specs.declared.refusals.Refusal.TheVariants.{Book as OfBook, Session as OfSession}
 use Rattle.trading.specs.Replies.{Reply, entered, was_cut, withdrawn, refused, Outcome, price_limit, entry_limit, with_order, entry_by_book, entry_by_session, cut_by_book, withdrawal_of, outcome}
 

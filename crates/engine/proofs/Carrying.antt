@@ -1,5 +1,5 @@
 -- Calls that trade nothing, as they are carried out. Assumes nothing.
-use Rattle.std.proofs.Common.{◌≡◌, ℕ, List, [], ◌∷◌, ◌++◌, Ok, Err, Result, sym, refl, ap, ◌∙◌, subst, append-nil}
+use Rattle.std.proofs.Common.{◌≡◌, ℕ, List, [], ◌++◌, Result, sym, ap, ◌∙◌, append-nil}
 use Rattle.note.specs.declared.trades.Trade.{Trade}
 use Rattle.session.specs.declared.refusals.SessionRefusal.{SessionRefusal}
 use Rattle.book.specs.declared.orders.Side.{Side}
@@ -8,8 +8,7 @@ use Rattle.price.specs.declared.indications.Indication.{Indication}
 use Rattle.price.specs.Indications.{indication_answer}
 use Rattle.trading.specs.declared.calls.Call.{Call}
 use Rattle.trading.specs.declared.calls.Call.TheVariants.{Entry, Cut, Withdrawal, Indication as AskIndication}
-use Rattle.trading.specs.declared.refusals.Refusal.TheVariants.{Session as OfSession}
-use Rattle.trading.specs.Replies.{Reply, indicated, refused, Outcome, indication_of, outcome, trades_of, written}
+use Rattle.trading.specs.Replies.{Reply, Outcome, indication_of, outcome, trades_of, written}
 
 -- a call was replied r and left m', with no trade for the register and the log
 pub record Carried (o : Outcome) (r : Reply) (m' : Book) (xs log : List Trade) : Type 0 where

@@ -1,18 +1,18 @@
 -- The fronts of the two sides: refilled, and one trade on. Assumes nothing.
-use Rattle.std.proofs.Common.{◌≡◌, ℕ, zero, suc, ◌+◌, ◌-◌, ◌<◌, ◌≤◌, min, eqb, ◌⊎◌, List, [], ◌∷◌, length, drop, Some, None, Option, sym, refl, ap, ◌∙◌, subst, inl, inr, add-one, arith}
+use Rattle.std.proofs.Common.{◌≡◌, ℕ, zero, suc, ◌+◌, ◌-◌, ◌<◌, ◌≤◌, min, eqb, ◌⊎◌, List, [], ◌∷◌, length, drop, Some, None, sym, refl, ap, ◌∙◌, subst, inl, inr, add-one, arith}
 use Rattle.std.specs.List.{slice_get}
 use Rattle.std.proofs.lemmas.Bool.{eq-eqb, ne_eqb, cond-true, cond-false}
 use Rattle.book.specs.declared.orders.Side.{Side}
 use Rattle.book.specs.declared.orders.Side.TheVariants.{Buy, Sell}
 use Rattle.book.specs.Meaning.{Book, Order, Sound}
 use Rattle.book.specs.Ranks.{ranked, at_place}
-use Rattle.rules.specs.Trades.{Fill, fill, fills, listed, pairs, trades_at}
+use Rattle.rules.specs.Trades.{Fill, fill, fills, listed, pairs}
 use Rattle.rules.proofs.Pairing.{pairs_next, pairs_no_buys, pairs_no_sells}
 use Rattle.rules.proofs.Laying.{fills_zero}
 use Rattle.rules.proofs.Fitting.{side_length}
 use Rattle.engine.specs.declared.fronts.Front.{Front}
 use Rattle.engine.specs.declared.fronts.Fronts.{Fronts}
-use Rattle.engine.specs.Pairings.{fills_from, At, Refilled, trades_left, Placed, Next, starting}
+use Rattle.engine.specs.Pairings.{fills_from, At, Refilled, trades_left, Placed, Next}
 
 -- Ranks.
 

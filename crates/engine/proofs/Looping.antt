@@ -1,5 +1,5 @@
 -- The loops over the trades that are left: one counts them, one writes them. Assumes nothing.
-use Rattle.std.proofs.Common.{◌≡◌, ℕ, zero, suc, ◌+◌, ◌-◌, ◌<◌, ◌≤◌, min, List, [], ◌∷◌, ◌++◌, length, take, drop, set, sym, refl, ap, ◌∙◌, subst, append-nil, add-one, arith, length-append, length-set, take-append-drop, drop-drop, take-suc-set, drop-set-lt}
+use Rattle.std.proofs.Common.{◌≡◌, ℕ, ◌+◌, ◌<◌, ◌≤◌, List, [], ◌∷◌, ◌++◌, length, take, drop, set, sym, refl, ap, ◌∙◌, append-nil, add-one, arith, length-append, length-set, take-append-drop, drop-drop, take-suc-set, drop-set-lt}
 use lib.Seq.{append_snoc}
 use Rattle.std.proofs.lemmas.List.{length-take}
 use Rattle.note.specs.declared.trades.Trade.{Trade}

@@ -9,7 +9,7 @@ use Rattle.trading.specs.declared.calls.Call.{Call}
 use Rattle.trading.specs.declared.answers.Answer.{Answer}
 use Rattle.trading.specs.declared.answers.Answer.TheVariants.{Entered, Cut, Withdrawn, Indicated, Uncrossed, Refused}
 use Rattle.trading.specs.declared.refusals.Refusal.{Refusal}
-use Rattle.trading.specs.Replies.{Reply, Outcome, uncrossed, refused, trades_of, outcome, replies, after_all, written, register_after, log_of, read, read_all}
+use Rattle.trading.specs.Replies.{Reply, uncrossed, refused, trades_of, outcome, replies, after_all, written, register_after, log_of, read, read_all}
 use Rattle.trading.proofs.Following.{follows, lawful}
 use Rattle.rules.specs.Rivals.{Each}
 use Rattle.engine.specs.Runs.{Within, Ran}

@@ -1,5 +1,5 @@
 -- The loop that cuts the trades, and the whole uncrossing. Assumes nothing.
-use Rattle.std.proofs.Common.{◌≡◌, ℕ, zero, suc, ◌+◌, ◌-◌, ◌<◌, ◌≤◌, min, true, false, cond, ltb, ◌⊎◌, List, [], ◌∷◌, ◌++◌, length, get_or, take, drop, Some, None, Ok, Err, Option, Result, sym, refl, ap, ◌∙◌, subst, add-one, arith, drop-cons}
+use Rattle.std.proofs.Common.{◌≡◌, ℕ, zero, suc, ◌+◌, ◌-◌, ◌<◌, ◌≤◌, ltb, List, [], ◌∷◌, length, get_or, take, drop, Some, None, Ok, Err, Option, sym, refl, ap, ◌∙◌, subst, add-one, arith, drop-cons}
 use lib.Seq.{drop-length, take-append_seam}
 use Rattle.std.proofs.lemmas.Bool.{lt-ltb, le-ltb, cond-true, cond-false}
 use Rattle.note.specs.declared.trades.Trade.{Trade}
@@ -10,12 +10,11 @@ use Rattle.book.specs.declared.orders.Side.TheVariants.{Buy, Sell}
 use Rattle.book.specs.Meaning.{Book, Order, Sound, cut_after, cut}
 use Rattle.book.proofs.Listing.{rising_apart}
 use Rattle.book.proofs.Makes.{cut_taken}
-use Rattle.rules.specs.Schedule.{Schedule, offered, volume}
+use Rattle.rules.specs.Schedule.{offered}
 use Rattle.rules.specs.Literal.{equilibrium}
-use Rattle.rules.specs.Rivals.{Each}
 use Rattle.rules.specs.Trades.{trades_at, settle, after_trades}
-use Rattle.rules.specs.Holding.{Holds, Fits, Cuttable}
-use Rattle.rules.proofs.Fitting.{second_holds, trades_stand, trades_few}
+use Rattle.rules.specs.Holding.{Holds, Cuttable}
+use Rattle.rules.proofs.Fitting.{second_holds, trades_stand}
 use Rattle.price.specs.declared.indications.Indication.{Indication}
 use Rattle.price.specs.Indications.{indication_answer, told}
 use Rattle.trading.specs.declared.calls.Call.TheVariants.{Uncrossing}

@@ -1,4 +1,4 @@
-use Rattle.std.proofs.Common.{◌++◌, vec_items, sym, ap, ◌∙◌, append_assoc, append-nil, add-one, arith}
+use Rattle.std.proofs.Common.{◌++◌, vec_items, sym, ap, ◌∙◌, append-nil, arith}
 use Rattle.std.proofs.lemmas.List.{take_all}
 use Rattle.engine.proofs.Running.{added_more}
 use Rattle.engine.proofs.runs.append.Goals as goal

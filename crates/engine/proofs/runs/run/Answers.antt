@@ -1,4 +1,4 @@
-use Rattle.std.proofs.Common.{◌≡◌, [], length, vec_items, sym, ap, ◌∙◌, subst, arith}
+use Rattle.std.proofs.Common.{[], length, vec_items, sym, subst, arith}
 use Rattle.engine.proofs.Running.{Going, going_starts, going_next, going_ends}
 use Rattle.engine.proofs.runs.run.Goals as goal
 
