@@ -18,7 +18,7 @@ fn run(rt: &HostRuntime) -> anyhow::Result<()> {
     let make = words.next().context("no make")?;
     let operation = Operation::named(&words.next().context("no operation")?);
     let orders = words.next().context("no count")?.parse::<u32>()?;
-    let sum = if make == "table" {
+    let sum = if make.as_str() == "table" {
         work(&mut Table::new(rt.alloc(), PLACES)?, operation, orders)
     } else {
         work(

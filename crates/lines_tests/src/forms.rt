@@ -45,9 +45,9 @@ fn fields_stand_at_their_places_in_the_feed(rt: HostRuntime) -> Result<(), Fail>
         return Ok(());
     };
     assert_eq!(rt; quantity.place, 6usize);
-    assert!(rt; quantity.text == b"12");
+    assert!(rt; quantity.text == b"12".as_slice());
     assert_eq!(rt; price.place, 9usize);
-    assert!(rt; price.text == b"3450");
+    assert!(rt; price.text == b"3450".as_slice());
     Ok(())
 }
 
