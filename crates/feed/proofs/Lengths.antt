@@ -1,5 +1,5 @@
 -- How many replies and answers there are. Assumes nothing.
-use Rattle.std.proofs.Common.{◌≡◌, ℕ, suc, ◌+◌, List, [], ◌∷◌, length, Some, None, Ok, Err, Option, Result, sym, refl, ap, ◌∙◌, arith}
+use Rattle.std.proofs.Common.{◌≡◌, ℕ, suc, ◌+◌, List, [], ◌∷◌, length, Ok, Err, Option, Result, refl, ap, arith}
 use Rattle.note.specs.declared.trades.Trade.{Trade}
 use Rattle.book.specs.Meaning.{Book}
 use Rattle.trading.specs.declared.calls.Call.{Call}
@@ -8,7 +8,7 @@ use Rattle.trading.specs.Replies.{Reply, outcome, replies, read_all as replies-r
 use Rattle.feed.specs.declared.faults.Fault.{Fault}
 use Rattle.feed.specs.declared.steps.Step.{Step}
 use Rattle.feed.specs.declared.steps.Step.TheVariants.{Opening, Asking}
-use Rattle.feed.specs.Steps.{Read, Terms, judged, terms_after, all_judged, calls_of}
+use Rattle.feed.specs.Steps.{Read, Terms, terms_after, all_judged, calls_of}
 use Rattle.feed.specs.Replies.{told_all}
 
 pub replies_length : (tick scarcity places : ℕ) (m : Book) (cs : List Call) → length (replies tick scarcity places m cs) ≡ length cs

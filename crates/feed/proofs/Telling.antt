@@ -1,5 +1,5 @@
 -- Lines of which the first i are answered, by the first of the answers to their calls. Assumes nothing.
-use Rattle.std.proofs.Common.{◌≡◌, ℕ, suc, ◌+◌, ◌<◌, ◌≤◌, List, [], ◌∷◌, ◌++◌, length, get_or, drop, Ok, Err, Result, sym, refl, ap, ◌∙◌, subst, append_assoc, append-nil, arith}
+use Rattle.std.proofs.Common.{◌≡◌, ℕ, ◌+◌, ◌<◌, ◌≤◌, List, [], ◌∷◌, ◌++◌, length, get_or, drop, Ok, Err, Result, sym, refl, ap, ◌∙◌, subst, append-nil, arith}
 use lib.Seq.{append_snoc}
 use Rattle.std.proofs.lemmas.List.{drop_more, drop_all}
 use Rattle.note.specs.declared.trades.Trade.{Trade}

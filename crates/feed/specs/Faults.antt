@@ -1,6 +1,5 @@
 -- The number and the layer of each cause. Assumes nothing.
 use Rattle.std.specs.Prelude.{ℕ, List, codes}
-use Rattle.trading.specs.declared.refusals.Refusal.{Refusal}
 use Rattle.trading.specs.declared.refusals.Refusal.TheVariants.{Book as OfBook, Session as OfSession}
 use Rattle.trading.specs.Refusals.{number_of as refusal-number}
 use Rattle.feed.specs.declared.faults.Cause.{Cause}

@@ -1,13 +1,10 @@
 -- Which part of a line a refusal blames. Assumes nothing.
 use Rattle.std.specs.Prelude.{ℕ, Ok, Err, Result}
 use Rattle.lines.specs.declared.refusals.MalformedLine.{MalformedLine}
-use Rattle.book.specs.declared.refusals.BookRefusal.{BookRefusal}
 use Rattle.book.specs.declared.refusals.BookRefusal.TheVariants.{UnknownOrder, CutRange, Full, NumbersSpent}
-use Rattle.session.specs.declared.refusals.SessionRefusal.{SessionRefusal}
 use Rattle.session.specs.declared.refusals.SessionRefusal.TheVariants.{SessionRange, QuantityRange, PriceRange, OffTick, NoVolume, RegisterShort}
 use Rattle.trading.specs.declared.refusals.Refusal.{Refusal}
 use Rattle.trading.specs.declared.refusals.Refusal.TheVariants.{Book as OfBook, Session as OfSession}
-use Rattle.feed.specs.declared.faults.Cause.{Cause}
 use Rattle.feed.specs.declared.faults.Cause.TheVariants.{Malformed, OutOfTurn, Refused}
 use Rattle.feed.specs.declared.faults.Fault.{Fault}
 use Rattle.feed.specs.declared.places.Places.{Places}

@@ -12,7 +12,6 @@ use Rattle.lines.specs.Reading.{message, next_start, Answered}
 use Rattle.book.specs.declared.orders.Side.{Side}
 use Rattle.book.specs.declared.orders.Side.TheVariants.{Buy, Sell}
 use Rattle.session.specs.declared.sessions.Session.{Session}
-use Rattle.session.specs.declared.refusals.SessionRefusal.{SessionRefusal}
 use Rattle.session.specs.declared.refusals.SessionRefusal.TheVariants.{SessionRange}
 use Rattle.session.specs.Ranges.{is_tick, is_price}
 use Rattle.trading.specs.declared.calls.Call.{Call}

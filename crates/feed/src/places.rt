@@ -107,7 +107,7 @@ pub(crate) trait Placed<T> {
 
 impl<T, F: Blaming> Placed<T> for Result<T, F> {
     fn at(self, places: Places) -> Result<T, Fault>
-        ensures { result ≡ placed blamed self places }
+        ensures { result ≡ placed F.blamed self places }
     {
         match self {
             Ok(value) => Ok(value),

@@ -6,7 +6,7 @@ use Rattle.session.specs.declared.refusals.SessionRefusal.TheVariants.{NoVolume}
 use Rattle.session.specs.Rounding.{nearest}
 use Rattle.book.specs.declared.orders.Side.{Side}
 use Rattle.book.specs.declared.orders.Side.TheVariants.{Buy, Sell}
-use Rattle.book.specs.Meaning.{Order, Book}
+use Rattle.book.specs.Meaning.{Order}
 use Rattle.price.specs.declared.indications.Indication.{Indication}
 use Rattle.price.specs.Indications.{indication_answer}
 

@@ -1,4 +1,4 @@
-use Rattle.std.proofs.Common.{length, sym, ap, ◌∙◌, subst, arith}
+use Rattle.std.proofs.Common.{length, sym, ap, subst, arith}
 use Rattle.feed.specs.Steps.{terms_of}
 use Rattle.feed.specs.Playing.{Silent}
 use Rattle.feed.proofs.Playing.{silent, each_answered, plays}

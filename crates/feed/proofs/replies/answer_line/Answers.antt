@@ -1,4 +1,5 @@
-use Rattle.std.proofs.Common.{length, Ok, Err, sym, ap, ◌∙◌, subst}
+use Rattle.std.proofs.lemmas.Result.{err_from_is_err_and}
+use Rattle.std.proofs.Common.{length, Ok, ap, ◌∙◌, subst}
 use Rattle.feed.specs.Replies.{Left}
 use Rattle.feed.proofs.Telling.{one_opening, one_fault, one_call}
 use Rattle.feed.proofs.replies.answer_line.Goals as goal
@@ -12,4 +13,6 @@ returns-in-Asking c =
     one_call _ c.in-Asking.call c.in-Asking.places _ _ _ _ asking (subst (λ s. Left s (length c.args.answers.now) c.args.next.now) asking c.requires) c.answered.ensures
 
 pub returns-in_err-step : goal.returns-in_err-step
-returns-in_err-step c = ?
+returns-in_err-step c =
+    let p = err_from_is_err_and c.from_residual.result c.from_residual.ensures.1 in
+    rw (p.1, p.2) (one_fault _ _ _ _ c.in_err-step.was)
