@@ -12,7 +12,7 @@ use Rattle.book.specs.declared.orders.Body.{Body}
 use Rattle.book.specs.declared.orders.Side.{Side}
 use Rattle.book.specs.declared.refusals.BookRefusal.{BookRefusal}
 use Rattle.book.specs.declared.refusals.BookRefusal.TheVariants.{UnknownOrder}
-use Rattle.book.specs.Meaning.{Book, Order, unless_refused, enter_answer, enter_after, entered as with-body, found, cut, cut_answer, cut_after, cut_judged}
+use Rattle.book.specs.Meaning.{Book, Order, unless_refused, enter_answer, enter_after, entered as with_body, found, cut, cut_answer, cut_after, cut_judged}
 use Rattle.trading.specs.declared.calls.Call.TheVariants.{Entry, Cut, Withdrawal}
 use Rattle.trading.specs.declared.refusals.Refusal.TheVariants.{Book as OfBook, Session as OfSession}
 use Rattle.trading.specs.Replies.{Reply, entered, was_cut, withdrawn, refused, Outcome, price_limit, entry_limit, with_order, entry_by_book, entry_by_session, cut_by_book, withdrawal_of, outcome}
@@ -64,7 +64,7 @@ abbrev pub entry_as : Result ℕ BookRefusal → Reply
 entry_as (Ok number) = entered number
 entry_as (Err why) = refused (OfBook why)
 
-body_order : (m : Book) (body : Body) (side : Side) (limit quantity : ℕ) → body.side ≡ side → body.limit ≡ limit → body.quantity ≡ quantity → with-body m body ≡ with_order m side limit quantity
+body_order : (m : Book) (body : Body) (side : Side) (limit quantity : ℕ) → body.side ≡ side → body.limit ≡ limit → body.quantity ≡ quantity → with_body m body ≡ with_order m side limit quantity
 body_order m body side limit quantity s l q =
     ap (λ x. with_order m x body.limit body.quantity) s ∙ ap (λ x. with_order m side x body.quantity) l ∙ ap (λ x. with_order m side limit x) q
 
@@ -75,7 +75,7 @@ book_told m new side limit quantity (Err why) e = record { answer = refl; after 
 pub entry_told : (tick scarcity places : ℕ) (m m' : Book) (body : Body) (side : Side) (limit quantity price : ℕ) (r : Result ℕ BookRefusal) → Ok limit ≡ entry_limit tick quantity price → body.side ≡ side → body.limit ≡ limit → body.quantity ≡ quantity → r ≡ enter_answer m → m' ≡ enter_after m body → Told (outcome tick scarcity places m (Entry side quantity price)) (entry_as r) m'
 unfolding outcome enter_after
 entry_told tick scarcity places m m' body side limit quantity price r le s l q e after =
-    let told = book_told m (with-body m body) side limit quantity (enter_answer m) (body_order m body side limit quantity s l q) in
+    let told = book_told m (with_body m body) side limit quantity (enter_answer m) (body_order m body side limit quantity s l q) in
     let lim = ap (entry_by_session m side quantity) le in
     record { answer = ap entry_as e ∙ told.answer ∙ ap (λ (o : Outcome). o.reply) lim; after = after ∙ told.after ∙ ap (λ (o : Outcome). o.after) lim }
 

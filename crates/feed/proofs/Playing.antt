@@ -9,7 +9,7 @@ use Rattle.session.specs.declared.sessions.Session.{Session}
 use Rattle.session.specs.Ranges.{is_tick, is_price}
 use Rattle.trading.specs.declared.calls.Call.{Call}
 use Rattle.trading.specs.declared.answers.Answer.{Answer}
-use Rattle.trading.specs.Replies.{Reply, read_all as replies-read}
+use Rattle.trading.specs.Replies.{Reply, read_all as replies_read}
 use Rattle.feed.specs.declared.faults.Fault.{Fault}
 use Rattle.feed.specs.declared.replies.Done.{Done}
 use Rattle.feed.specs.declared.steps.Step.{Step}
@@ -60,10 +60,10 @@ pub silent : (feed : List ℕ) (session : Option Session) (steps : List (Result 
 silent feed session steps calls s =
     subst (λ t. Silent t calls) (sym s.session_is) (subst (λ cs. Silent (terms_after_all None s.lines) cs) (sym s.calls_are) (silent_lines 1 s.lines))
 
-pub no_calls : (t : Option Terms) (m : Book) (register : List Trade) (cs : List Call) (answers : List Answer) (log : List Trade) → t ≡ None → Silent t cs → answers ≡ [] → CarriedOut t m register cs (replies-read log answers) m register
-unfolding replies-read
+pub no_calls : (t : Option Terms) (m : Book) (register : List Trade) (cs : List Call) (answers : List Answer) (log : List Trade) → t ≡ None → Silent t cs → answers ≡ [] → CarriedOut t m register cs (replies_read log answers) m register
+unfolding replies_read
 no_calls t m register cs answers log e s a =
-    subst (λ u. Silent u cs → CarriedOut u m register cs (replies-read log answers) m register) (sym e) (λ silent. (silent, ap (replies-read log) a, refl, refl)) s
+    subst (λ u. Silent u cs → CarriedOut u m register cs (replies_read log answers) m register) (sym e) (λ silent. (silent, ap (replies_read log) a, refl, refl)) s
 
 -- The replies are as many as the calls.
 
@@ -74,17 +74,17 @@ carried_length (Some t) m register cs rs m' register' h = ap length h.replies_ar
 -- The steps, the calls and the answers, each read through a slice.
 module _ (feed : List ℕ) (session : Option Session) (steps steps' : List (Result Step Fault)) (calls calls' : List Call) (m : Book) (register : List Trade) (answers answers' : List Answer) (log : List Trade) (m' : Book) (register' : List Trade)
     (es : steps' ≡ steps) (ec : calls' ≡ calls) (ea : answers' ≡ answers)
-    (s : Scripted feed session steps calls) (h : CarriedOut (terms_of session) m register calls' (replies-read log answers) m' register') where
+    (s : Scripted feed session steps calls) (h : CarriedOut (terms_of session) m register calls' (replies_read log answers) m' register') where
   pub each_answered : length answers' ≡ length (calls_of steps')
   each_answered =
-      ap length ea ∙ sym (read_length log answers) ∙ carried_length (terms_of session) m register calls' (replies-read log answers) m' register' h
+      ap length ea ∙ sym (read_length log answers) ∙ carried_length (terms_of session) m register calls' (replies_read log answers) m' register' h
       ∙ ap length (ec ∙ s.calls_are) ∙ ap (λ ss. length (calls_of ss)) (sym (es ∙ s.steps_are))
 
-  pub plays : (replies : List (Result Done Fault)) → ((l : List Trade) → read_all l replies ≡ told_all steps' (replies-read l answers')) → Plays feed m register (read_all log replies) m' register'
+  pub plays : (replies : List (Result Done Fault)) → ((l : List Trade) → read_all l replies ≡ told_all steps' (replies_read l answers')) → Plays feed m register (read_all log replies) m' register'
   plays replies told =
-      let rs = replies-read log answers in
+      let rs = replies_read log answers in
       let ls = s.lines in
-      let whole : read_all log replies ≡ told_all (all_judged None 1 ls) rs = told log ∙ ap (λ ss. told_all ss (replies-read log answers')) (es ∙ s.steps_are) ∙ ap (λ as'. told_all (all_judged None 1 ls) (replies-read log as')) ea in
+      let whole : read_all log replies ≡ told_all (all_judged None 1 ls) rs = told log ∙ ap (λ ss. told_all ss (replies_read log answers')) (es ∙ s.steps_are) ∙ ap (λ as'. told_all (all_judged None 1 ls) (replies_read log as')) ea in
       let answered : length rs ≡ length (calls_of (all_judged None 1 ls)) = carried_length (terms_of session) m register calls' rs m' register' h ∙ ap length (ec ∙ s.calls_are) in
       record {
         lines = ls;

@@ -5,7 +5,7 @@ use Rattle.std.proofs.lemmas.List.{drop_more, drop_all}
 use Rattle.note.specs.declared.trades.Trade.{Trade}
 use Rattle.trading.specs.declared.calls.Call.{Call}
 use Rattle.trading.specs.declared.answers.Answer.{Answer}
-use Rattle.trading.specs.Replies.{read as reply-read, read_all as replies-read}
+use Rattle.trading.specs.Replies.{read as reply_read, read_all as replies_read}
 use Rattle.feed.specs.declared.faults.Fault.{Fault}
 use Rattle.feed.specs.declared.places.Places.{Places}
 use Rattle.feed.specs.declared.replies.Done.{Done}
@@ -22,12 +22,12 @@ read_all_snoc log (b ∷ answers) a = ap (λ rs. read log b ∷ rs) (read_all_sn
 
 -- the replies so far, and what the lines that are left are told, are what all lines are told; each call that is left has its answer
 pub record Telling (ss : List (Result Step Fault)) (answers : List Answer) (replies : List (Result Done Fault)) (i next : ℕ) : Type 0 where
-  pub told : (log : List Trade) → read_all log replies ++ told_all (drop i ss) (replies-read log (drop next answers)) ≡ told_all ss (replies-read log answers)
+  pub told : (log : List Trade) → read_all log replies ++ told_all (drop i ss) (replies_read log (drop next answers)) ≡ told_all ss (replies_read log answers)
   pub asked : next + length (calls_of (drop i ss)) ≡ length answers
 
 pub tell_none : (ss : List (Result Step Fault)) (answers : List Answer) (replies : List (Result Done Fault)) → length answers ≡ length (calls_of ss) → replies ≡ [] → Telling ss answers replies 0 0
 unfolding read_all
-tell_none ss answers replies e none = record { told = λ log. ap (λ rs. read_all log rs ++ told_all ss (replies-read log answers)) none; asked = omega (arith, e) }
+tell_none ss answers replies e none = record { told = λ log. ap (λ rs. read_all log rs ++ told_all ss (replies_read log answers)) none; asked = omega (arith, e) }
 
 -- one line: an opening, a fault, or a call with its answer
 
@@ -40,10 +40,10 @@ unfolding told_all
 one_fault s fault answers k e = subst (λ x. AnswersOne x answers k (Err fault) k) (sym e) (record { head = λ log ss. refl; taken = omega arith })
 
 pub one_call : (s : Result Step Fault) (c : Call) (p : Places) (answers : List Answer) (k : ℕ) (d : Answer) (r : Result Done Fault) → s ≡ Ok (Asking c p) → k < length answers
-    → ((log : List Trade) → read log r ≡ told_of p (reply-read log (get_or answers k d))) → AnswersOne s answers k r (k + 1)
-unfolding told_all replies-read
+    → ((log : List Trade) → read log r ≡ told_of p (reply_read log (get_or answers k d))) → AnswersOne s answers k r (k + 1)
+unfolding told_all replies_read
 one_call s c p answers k d r e lt reads = subst (λ x. AnswersOne x answers k r (k + 1)) (sym e) (record {
-  head = λ log ss. ap (λ ds. told_all (Ok (Asking c p) ∷ ss) (replies-read log ds)) (drop_more answers k d lt) ∙ ap (λ x. x ∷ told_all ss (replies-read log (drop (k + 1) answers))) (sym (reads log));
+  head = λ log ss. ap (λ ds. told_all (Ok (Asking c p) ∷ ss) (replies_read log ds)) (drop_more answers k d lt) ∙ ap (λ x. x ∷ told_all ss (replies_read log (drop (k + 1) answers))) (sym (reads log));
   taken = omega arith;
 })
 
@@ -74,15 +74,15 @@ module _ (ss : List (Result Step Fault)) (answers : List Answer) (replies : List
       let left = drop_more ss i d lt in
       record {
         told = λ log.
-            ap (λ rs. read_all log rs ++ told_all rest (replies-read log (drop k' answers))) e
-            ∙ ap (λ x. x ++ told_all rest (replies-read log (drop k' answers))) (read_all_snoc log replies r)
+            ap (λ rs. read_all log rs ++ told_all rest (replies_read log (drop k' answers))) e
+            ∙ ap (λ x. x ++ told_all rest (replies_read log (drop k' answers))) (read_all_snoc log replies r)
             ∙ append_snoc (read_all log replies) (read log r) _
             ∙ ap (λ x. read_all log replies ++ x) (sym (one.head log rest))
-            ∙ subst (λ ds. read_all log replies ++ told_all ds (replies-read log (drop k answers)) ≡ told_all ss (replies-read log answers)) left (h.told log);
+            ∙ subst (λ ds. read_all log replies ++ told_all ds (replies_read log (drop k answers)) ≡ told_all ss (replies_read log answers)) left (h.told log);
         asked = omega (arith, subst (λ ds. k + length (calls_of ds) ≡ length answers) left h.asked, counted s rest, one.taken);
       }
 
 module _ (ss : List (Result Step Fault)) (answers : List Answer) (replies : List (Result Done Fault)) (i k : ℕ) where
-  pub told_whole : length ss ≤ i → Telling ss answers replies i k → (log : List Trade) → read_all log replies ≡ told_all ss (replies-read log answers)
+  pub told_whole : length ss ≤ i → Telling ss answers replies i k → (log : List Trade) → read_all log replies ≡ told_all ss (replies_read log answers)
   unfolding told_all
-  told_whole le h log = sym (append-nil _) ∙ ap (λ ds. read_all log replies ++ told_all ds (replies-read log (drop k answers))) (sym (drop_all i ss le)) ∙ h.told log
+  told_whole le h log = sym (append-nil _) ∙ ap (λ ds. read_all log replies ++ told_all ds (replies_read log (drop k answers))) (sym (drop_all i ss le)) ∙ h.told log

@@ -1,7 +1,7 @@
 -- The number and the layer of each cause. Assumes nothing.
 use Rattle.std.specs.Prelude.{ℕ, List, codes}
 use Rattle.trading.specs.declared.refusals.Refusal.TheVariants.{Book as OfBook, Session as OfSession}
-use Rattle.trading.specs.Refusals.{number_of as refusal-number}
+use Rattle.trading.specs.Refusals.{number_of as refusal_number}
 use Rattle.feed.specs.declared.faults.Cause.{Cause}
 use Rattle.feed.specs.declared.faults.Cause.TheVariants.{Malformed, OutOfTurn, Refused}
 use Rattle.feed.specs.declared.faults.Layer.{Layer}
@@ -10,7 +10,7 @@ use Rattle.feed.specs.declared.faults.Layer.TheVariants.{Read, Session, Book}
 abbrev pub number_of : Cause → ℕ
 number_of Malformed = 1
 number_of OutOfTurn = 2
-number_of (Refused why) = refusal-number why
+number_of (Refused why) = refusal_number why
 
 abbrev pub layer_of : Cause → Layer
 layer_of Malformed = Read

@@ -2,7 +2,7 @@
 use Rattle.std.specs.Prelude.{◌≡◌, ℕ, ◌+◌, ◌<◌, List, [], ◌∷◌, length, take, drop, Ok, Err, Result}
 use Rattle.note.specs.declared.trades.Trade.{Trade}
 use Rattle.price.specs.declared.indications.Indication.{Indication}
-use Rattle.trading.specs.Replies.{Reply, entered, was_cut, withdrawn, indicated, uncrossed, refused, read_all as replies-read}
+use Rattle.trading.specs.Replies.{Reply, entered, was_cut, withdrawn, indicated, uncrossed, refused, read_all as replies_read}
 use Rattle.trading.specs.declared.answers.Answer.{Answer}
 use Rattle.trading.specs.declared.answers.Answer.TheVariants.{Entered as Answer-as-Entered, Cut as Answer-as-Cut, Withdrawn as Answer-as-Withdrawn, Indicated as Answer-as-Indicated, Uncrossed as Answer-as-Uncrossed, Refused as Answer-as-Refused}
 use Rattle.trading.specs.declared.refusals.Refusal.{Refusal}
@@ -69,5 +69,5 @@ Left (Err fault) n k = Unit {0}
 
 -- from the answers behind the first k the line is answered r, which leaves those behind the first k'
 pub record AnswersOne (s : Result Step Fault) (answers : List Answer) (k : ℕ) (r : Result Done Fault) (k' : ℕ) : Type 0 where
-  pub head : (log : List Trade) (ss : List (Result Step Fault)) → told_all (s ∷ ss) (replies-read log (drop k answers)) ≡ read log r ∷ told_all ss (replies-read log (drop k' answers))
+  pub head : (log : List Trade) (ss : List (Result Step Fault)) → told_all (s ∷ ss) (replies_read log (drop k answers)) ≡ read log r ∷ told_all ss (replies_read log (drop k' answers))
   pub taken : k' ≡ k + length (with_call s [])

@@ -1,6 +1,6 @@
 // A feed played on a book.
 ghost use Rattle.std.specs.Prelude.{◌≡◌, MatchResult};
-ghost use Rattle.trading.specs.Replies.{read_all as replies-read};
+ghost use Rattle.trading.specs.Replies.{read_all as replies_read};
 ghost use Rattle.feed.specs.Steps.{terms_of};
 ghost use Rattle.feed.specs.Replies.{read_all};
 ghost use Rattle.feed.specs.Playing.{Plays, CarriedOut, Unplayed, Silent};
@@ -31,7 +31,7 @@ fn carry_out<B: OrderBook>(
     register: &mut [Trade],
 ) -> Result<Journal, AllocError>
     requires { Silent (terms_of session) calls.now }
-    ensures { MatchResult result (λ journal. CarriedOut (terms_of session) (B.meaning book.old) register.old calls.now (replies-read journal.trades.items journal.answers.items) (B.meaning book.new) register.new) (λ _. Unplayed (B.meaning book.old) register.old (B.meaning book.new) register.new) }
+    ensures { MatchResult result (λ journal. CarriedOut (terms_of session) (B.meaning book.old) register.old calls.now (replies_read journal.trades.items journal.answers.items) (B.meaning book.new) register.new) (λ _. Unplayed (B.meaning book.old) register.old (B.meaning book.new) register.new) }
 {
     match session {
         Some(session) => run(heap, book, session, calls, register),

@@ -1,7 +1,7 @@
 // What each line is answered.
 ghost use Rattle.std.specs.Prelude.{◌≡◌, ◌≤◌, List, [], length, vec_capacity};
 ghost use Rattle.note.specs.declared.trades.Trade.{Trade};
-ghost use Rattle.trading.specs.Replies.{read as reply-read, read_all as replies-read};
+ghost use Rattle.trading.specs.Replies.{read as reply_read, read_all as replies_read};
 ghost use Rattle.feed.specs.Steps.{calls_of};
 ghost use Rattle.feed.specs.Replies.{done_of, told_of, told_all, read, read_all, Left, AnswersOne};
 
@@ -42,7 +42,7 @@ fn done_for(answer: Answer) -> Result<Done, Refusal>
 
 /// The answer to a line of which the call was answered.
 fn answered(places: Places, answer: Answer) -> Result<Done, Fault>
-    ensures { (log : List Trade) → read log result ≡ told_of places (reply-read log answer) }
+    ensures { (log : List Trade) → read log result ≡ told_of places (reply_read log answer) }
 {
     done_for(answer).at(places)
 }
@@ -75,7 +75,7 @@ pub(crate) fn answer_lines(
     requires asked { length answers.now ≡ length (calls_of steps.now) }
     requires empty { replies.old.items ≡ [] }
     requires room { length steps.now ≤ vec_capacity replies.old }
-    ensures { (log : List Trade) → read_all log replies.new.items ≡ told_all steps.now (replies-read log answers.now) }
+    ensures { (log : List Trade) → read_all log replies.new.items ≡ told_all steps.now (replies_read log answers.now) }
 {
     let mut next = 0usize;
     for step in steps {

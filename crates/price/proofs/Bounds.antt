@@ -29,7 +29,7 @@ module _ (os : List Order) (top most : ℕ) (buy sell : Order) (first : Some buy
       (cases_lt n sell.limit)
 
   pub crossed : 1 ≤ buy.quantity → 1 ≤ sell.quantity → 1 ≤ sell.limit → sell.limit ≤ most → Crossed (schedule os most) sell.limit most
-  crossed some-bought some-sold one le =
+  crossed some_bought some_sold one le =
       record {
         one = one;
         order = le;
