@@ -103,8 +103,12 @@ def made(name, words):
 
 
 def turn_code(code, names, words, is_proof):
+    """The code with its names respelled; a string stays as it is."""
+
     def put(match):
-        name = match.group(0)
+        if match.group("name") is None:
+            return match.group(0)
+        name = match.group("name")
         before = code[: match.start()]
         if name.endswith("-is") and re.search(r"\bw\.$", before):
             return name
@@ -114,7 +118,7 @@ def turn_code(code, names, words, is_proof):
             return made(name, words)
         return name
 
-    return re.sub(r"(?<![\w'-])" + TOKEN, put, code)
+    return re.sub(r'"(?:[^"\\]|\\.)*"|(?<![\w\'-])(?P<name>' + TOKEN + ")", put, code)
 
 
 def turn(path, names, words, mark):

@@ -14,5 +14,5 @@ abbrev pub reason_text : NoteRefusal → List ℕ
 reason_text RegisterShort = codes "more trades than the register has places"
 reason_text BufferShort = codes "note longer than the buffer"
 reason_text OutOfRange = codes "number out of range, or a trade of one order with itself"
-reason_text BadNumber = codes "number cut off, over_long or above 4294967295"
+reason_text BadNumber = codes "number cut off, over-long or above 4294967295"
 reason_text BytesLeft = codes "bytes left over after the note"

@@ -33,7 +33,7 @@ impl NoteRefusal {
             NoteRefusal::RegisterShort => "more trades than the register has places",
             NoteRefusal::BufferShort => "note longer than the buffer",
             NoteRefusal::OutOfRange => "number out of range, or a trade of one order with itself",
-            NoteRefusal::BadNumber => "number cut off, over_long or above 4294967295",
+            NoteRefusal::BadNumber => "number cut off, over-long or above 4294967295",
             NoteRefusal::BytesLeft => "bytes left over after the note",
         }
     }

@@ -14,7 +14,7 @@ fn a_refusal_has_its_number_and_reason(rt: HostRuntime) -> Result<(), Fail> {
     check_report(
         &rt,
         &[0x80, 0x00],
-        "refused 15 number cut off, over_long or above 4294967295\n",
+        "refused 15 number cut off, over-long or above 4294967295\n",
     )?;
     check_report(
         &rt,
