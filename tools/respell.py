@@ -6,7 +6,7 @@ usage: python3 tools/respell.py            at the top of a checkout, once
 A name of the repository's own with dashes between its words is one that a file of specs/ or proofs/ declares: a
 definition, a lemma, a field, a parameter or a `let`. It gets underscores; a type gets camel case. A name that the
 checker makes of the sources keeps the dashes between its parts, and the sources' own spelling in each part. Names of
-the library are not touched, nor are comments, strings and the code of functions.
+the library alone are not touched, nor are comments, strings and the code of functions.
 """
 
 import glob
