@@ -1,4 +1,6 @@
 // A plain book, and what each call does to it.
+ghost use Rattle.std.specs.Prelude.{◌≡◌, []};
+
 use crate::plain::PlainOrder;
 use crate::prices::calculate;
 use book::Side;
@@ -29,7 +31,14 @@ pub struct PlainBook {
 }
 
 impl PlainBook {
-    pub fn new(heap: Global, places: usize, tick: u32, scarcity: u32) -> PlainBook {
+    /// A book with no orders.
+    pub fn new(heap: Global, places: usize, tick: u32, scarcity: u32) -> PlainBook
+        ensures orders { result.orders.items ≡ [] }
+        ensures trades { result.trades.items ≡ [] }
+        ensures places { result.places ≡ places }
+        ensures tick { result.tick ≡ tick }
+        ensures scarcity { result.scarcity ≡ scarcity }
+    {
         PlainBook {
             orders: Vec::new(heap),
             trades: Vec::new(heap),

@@ -1,4 +1,8 @@
 // Orders in plain numbers, from which books are filled.
+ghost use Rattle.std.specs.Prelude.{◌≡◌};
+ghost use Rattle.book.specs.declared.orders.Side.TheVariants.{Buy as OfBuys, Sell as OfSells};
+ghost use Rattle.calculator.specs.Fills.{with_plain, filled};
+
 use book::{Body, OrderBook, Side};
 
 /// An order that is not in a book yet; its limit is in ticks.
@@ -9,7 +13,10 @@ pub struct PlainOrder {
     pub quantity: u32,
 }
 
-pub fn buy(quantity: u32, limit: u32) -> PlainOrder {
+/// A buy order.
+pub fn buy(quantity: u32, limit: u32) -> PlainOrder
+    ensures { result ≡ record { side = OfBuys; limit = limit; quantity = quantity } }
+{
     PlainOrder {
         side: Side::Buy,
         limit,
@@ -17,7 +24,10 @@ pub fn buy(quantity: u32, limit: u32) -> PlainOrder {
     }
 }
 
-pub fn sell(quantity: u32, limit: u32) -> PlainOrder {
+/// A sell order.
+pub fn sell(quantity: u32, limit: u32) -> PlainOrder
+    ensures { result ≡ record { side = OfSells; limit = limit; quantity = quantity } }
+{
     PlainOrder {
         side: Side::Sell,
         limit,
@@ -25,11 +35,20 @@ pub fn sell(quantity: u32, limit: u32) -> PlainOrder {
     }
 }
 
-/// Enters the orders; one that no book takes is left out.
-pub fn fill<B: OrderBook>(book: &mut B, orders: &[PlainOrder]) {
+/// Enters an order, unless it is out of range or the book refuses it.
+fn enter_plain<B: OrderBook>(book: &mut B, order: PlainOrder)
+    ensures { B.meaning book.new ≡ with_plain (B.meaning book.old) order }
+{
+    if let Some(body) = Body::new(order.side, order.limit, order.quantity) {
+        let _ = book.enter(body);
+    }
+}
+
+/// Enters the orders in turn; one that no book takes is left out.
+pub fn fill<B: OrderBook>(book: &mut B, orders: &[PlainOrder])
+    ensures { B.meaning book.new ≡ filled (B.meaning book.old) orders.now }
+{
     for order in orders {
-        if let Some(body) = Body::new(order.side, order.limit, order.quantity) {
-            let _ = book.enter(body);
-        }
+        enter_plain(book, *order);
     }
 }

@@ -1,4 +1,5 @@
 // Numbers that look random and are the same on every run.
+ghost use Rattle.std.specs.Prelude.{◌≡◌, ◌+◌, ◌*◌, ◌/◌, ◌%◌, ◌^◌, max};
 
 /// A linear congruential generator of 64 bits, whose high bits are used.
 #[derive(Drop)]
@@ -7,12 +8,18 @@ pub struct Source {
 }
 
 impl Source {
-    pub fn new(seed: u64) -> Source {
+    /// A source that begins at a seed.
+    pub fn new(seed: u64) -> Source
+        ensures { result.state ≡ seed }
+    {
         Source { state: seed }
     }
 
     /// The next number below `bound`, or 0 below 0.
-    pub fn below(&mut self, bound: u32) -> u32 {
+    pub fn below(&mut self, bound: u32) -> u32
+        ensures state { self.new.state ≡ (self.old.state * 6364136223846793005 + 1442695040888963407) % 2 ^ 64 }
+        ensures value { result ≡ self.new.state / 2 ^ 33 % max bound 1 }
+    {
         self.state = self
             .state
             .wrapping_mul(6_364_136_223_846_793_005)
