@@ -1,8 +1,11 @@
 -- Where an order stands in a run, and what is found and cut there. Assumes nothing.
-use Rattle.std.proofs.Common.{◌≡◌, ℕ, suc, ◌+◌, ◌-◌, ◌<◌, ◌≤◌, true, ◌||◌, eqb, ltb, ◌⊎◌, List, [], ◌∷◌, ◌++◌, map, length, get_or, take, drop, set, Some, None, Ok, Err, Option, Result, sym, refl, ap, ◌∙◌, ⊎_elim, add-one, arith}
+use Rattle.std.proofs.Common.{◌≡◌, ℕ, suc, ◌+◌, ◌-◌, ◌<◌, ◌≤◌, Bool, true, cond, not, subst, ◌||◌, eqb, ltb, ◌⊎◌, List, [], ◌∷◌, ◌++◌, map, length, get_or, take, drop, set, Some, None, Ok, Err, Option, Result, sym, refl, ap, ◌∙◌, ⊎_elim, add-one, arith}
 use lib.ListN.{length-map}
-use Rattle.std.proofs.lemmas.List.{take_more, drop_more, take-append-drop, get_or-map, get_or_at, length-take-le, map-set, map-append, take-map, drop-map, set_split}
-use Rattle.std.proofs.lemmas.Bool.{cond-true, cond-false, eq-eqb, ne_eqb, lt-ltb, le-ltb, or_left, or_right, or_from, cases_eq}
+use Rattle.std.specs.List.{position_or_len}
+use Rattle.std.specs.Option.{MatchOption}
+use Rattle.std.proofs.lemmas.List.Sums.{passes_at_first}
+use Rattle.std.proofs.lemmas.List.{take_all, drop_more, take-append-drop, get_or_default, get_or-map, get_or_at, length-take-le, map-set, map-append, take-map, drop-map, set_split}
+use Rattle.std.proofs.lemmas.Bool.{cond-true, cond-false, eq-eqb, ne_eqb, lt-ltb, le-ltb, or_left, or_right, or_from, cases_eq, cases_Bool, ltb-true, ltb-false, eqb-true}
 use Rattle.std.specs.List.{remove}
 use Rattle.std.specs.Option.{option_map}
 use Rattle.book.specs.declared.orders.Body.{Body}
@@ -48,11 +51,7 @@ module _ {H : Type 0} (order : H → Order) (run : List H) (n i : ℕ) (item : H
   here : get_or (map order run) i (order item) ≡ order item
   here = get_or-map order run i item (order item) inside ∙ ap order (sym is)
 
-  pub passed_more : ((order item).number ≡ n → ⊥) → find_in (take (i + 1) (map order run)) n ≡ None
-  passed_more ne =
-      ap (λ l. find_in l n) (take_more (map order run) i (order item) within ∙ ap (λ o. take i (map order run) ++ o ∷ []) here) ∙ find_past (take i (map order run)) (order item ∷ []) n passed ∙ find_later (order item) [] n ne ∙ none_found n
-
-  pub stands : (order item).number ≡ n → Stands (map order run) n i
+  stands : (order item).number ≡ n → Stands (map order run) n i
   stands e =
       record {
         order = order item;
@@ -60,6 +59,43 @@ module _ {H : Type 0} (order : H → Order) (run : List H) (n i : ℕ) (item : H
         number = e;
         first = passed;
       }
+
+-- What a search by number answers.
+module _ {H : Type 0} (order : H → Order) (n : ℕ) where
+  abbrev pub has : H → Bool
+  has h = eqb (order h).number n
+
+  before_first : (run : List H) → find_in (take (position_or_len has run) (map order run)) n ≡ None
+  before_first [] = none_found n
+  before_first (x ∷ xs) =
+      let i = position_or_len has xs in
+      ⊎_elim
+      (λ e.
+      let first : position_or_len has (x ∷ xs) ≡ 0 = ap (λ b. cond (not b) (1 + i) 0) (eq-eqb (order x).number n e) in
+      ap (λ k. find_in (take k (map order (x ∷ xs))) n) first ∙ none_found n)
+      (λ ne.
+      let later : position_or_len has (x ∷ xs) ≡ suc i = ap (λ b. cond (not b) (1 + i) 0) (ne_eqb (order x).number n ne) ∙ omega arith in
+      ap (λ k. find_in (take k (map order (x ∷ xs))) n) later ∙ find_later (order x) (take i (map order xs)) n ne ∙ before_first xs)
+      (cases_eq (order x).number n)
+
+  -- the first item with the number, if there is one
+  pub searched : (run : List H) (r : Option ℕ) → r ≡ cond (ltb (position_or_len has run) (length run)) (Some (position_or_len has run)) None
+      → MatchOption r (find_in (map order run) n ≡ None) (λ i. (i < length run) × Stands (map order run) n i)
+  searched [] r e = subst (λ (o : Option ℕ). MatchOption o (find_in [] n ≡ None) (λ i. (i < 0) × Stands [] n i)) (sym e) (none_found n)
+  searched (x ∷ xs) r e =
+      let run = x ∷ xs in
+      let i = position_or_len has run in
+      let says : Option ℕ → Type 0 = λ o. MatchOption o (find_in (map order run) n ≡ None) (λ k. (k < length run) × Stands (map order run) n k) in
+      ⊎_elim
+      (λ t.
+      let inside : i < length run = ltb-true i (length run) t in
+      let item = get_or run i x in
+      let same = eqb-true (order item).number n (passes_at_first has run x inside) in
+      subst says (sym (e ∙ cond-true (ltb i (length run)) _ _ t)) (inside, stands order run n i item inside (get_or_default run i x item inside) (before_first run) same))
+      (λ f.
+      let past : length run ≤ i = omega (arith, ltb-false i (length run) f) in
+      subst says (sym (e ∙ cond-false (ltb i (length run)) _ _ f)) (sym (ap (λ l. find_in l n) (take_all i (map order run) (simp length-map past))) ∙ before_first run))
+      (cases_Bool (ltb i (length run)))
 
 -- what stands there is found, and cut there
 module _ {os : List Order} {n i : ℕ} (s : Stands os n i) where

@@ -1,6 +1,7 @@
 -- What a book means, and for each operation what it answers and what the book means afterwards. Assumes nothing.
 use Rattle.std.specs.Prelude.{◌≡◌, ℕ, ◌+◌, ◌-◌, ◌≤◌, Bool, true, false, cond, ◌&&◌, ◌||◌, List, [], ◌∷◌, ◌++◌, length, Some, None, Ok, Err, Option, Result, ◌==◌, nat_le, nat_lt}
 use Rattle.std.specs.Option.{option_map}
+use Rattle.std.specs.Result.{result_unwrap_or}
 use Rattle.book.specs.declared.orders.Side.{Side}
 use Rattle.book.specs.declared.orders.Side.TheVariants.{Buy, Sell}
 use Rattle.book.specs.declared.orders.Body.{Body}
@@ -59,8 +60,15 @@ unless_refused (Err why) new old = old
 
 -- Entry: refused if the live orders are as many as the places, then if the last number is 60,000.
 
+-- by the places, the last number and how many orders are live: the number that is given out, and the last one then
+abbrev pub number_answer : ℕ → ℕ → ℕ → Result ℕ BookRefusal
+number_answer places last live = cond (live == places) (Err Full) (cond (last == 60000) (Err NumbersSpent) (Ok (last + 1)))
+
+abbrev pub number_after : ℕ → ℕ → ℕ → ℕ
+number_after places last live = result_unwrap_or (number_answer places last live) last
+
 unfoldable pub enter_answer : Book → Result ℕ BookRefusal
-enter_answer m = cond (length m.orders == m.places) (Err Full) (cond (m.last == 60000) (Err NumbersSpent) (Ok (m.last + 1)))
+enter_answer m = number_answer m.places m.last (length m.orders)
 
 -- the body gets the last number plus 1 and stands at the end
 abbrev pub entered : Book → Body → Book

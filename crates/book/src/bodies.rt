@@ -9,10 +9,10 @@ impl Body {
     pub fn new(side: Side, limit: u32, quantity: u32) -> Option<Body>
         ensures { MatchOption result (in_range limit quantity ≡ false) (λ b. (in_range limit quantity ≡ true) × (b.side ≡ side) × (b.limit ≡ limit) × (b.quantity ≡ quantity)) }
     {
-        if limit == 0 || limit > MAX_LIMIT {
+        if !(1..=MAX_LIMIT).contains(&limit) {
             return None;
         }
-        if quantity == 0 || quantity > MAX_QUANTITY {
+        if !(1..=MAX_QUANTITY).contains(&quantity) {
             return None;
         }
         Some(Body {

@@ -3,6 +3,7 @@
 
 mod bodies;
 mod books;
+mod intakes;
 mod orders;
 mod refusals;
 mod runs;
@@ -10,8 +11,9 @@ mod sides;
 mod tops;
 
 pub use books::{LAST_NUMBER, MAX_PLACES, OrderBook};
+pub use intakes::Intake;
 pub use orders::{Body, Live, MAX_LIMIT, MAX_QUANTITY, Side};
 pub use refusals::BookRefusal;
 pub use runs::{Holds, cut_in, find_in, position};
-pub use sides::{BuyOrder, SellOrder, outranks, trades_at};
+pub use sides::{Buys, OneSide, Sells, SideOrder, outranks, trades_at};
 pub use tops::{TopOfBook, top_of_book};

@@ -14,7 +14,7 @@ pub const MAX_LIMIT: u32 = 10_000_000;
 pub const MAX_QUANTITY: u32 = 6_858;
 
 /// What an order says. No body outside its ranges exists.
-#[derive(Clone, Copy)]
+#[derive(Clone, Copy, Debug, PartialEq, Eq)]
 pub struct Body {
     pub side: Side,
     /// The worst price at which it trades, in ticks.
@@ -26,7 +26,7 @@ pub struct Body {
 }
 
 /// An order that is live in a book.
-#[derive(Clone, Copy)]
+#[derive(Clone, Copy, Debug, PartialEq, Eq)]
 pub struct Live {
     pub number: u32,
     pub body: Body,

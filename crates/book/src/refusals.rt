@@ -15,11 +15,11 @@ pub enum BookRefusal {
     NumbersSpent = 10,
 }
 
-impl BookRefusal {
-    /// The refusal's number.
-    pub fn code(self) -> u8
-        ensures { result ≡ numbered self }
-    {
-        self as u8
+/// The refusal's number.
+impl From<BookRefusal> for u8 {
+    ghost from_gives = { λ why number. number ≡ numbered why };
+
+    fn from(why: BookRefusal) -> u8 {
+        why as u8
     }
 }

@@ -5,7 +5,7 @@ ghost use Rattle.book.specs.Runs.{Stands, run_cut, run_after};
 
 use crate::orders::Live;
 use crate::refusals::BookRefusal;
-use crate::sides::{BuyOrder, SellOrder};
+use crate::sides::SideOrder;
 
 /// A cut that takes nothing.
 const EMPTY_CUT: u32 = 0;
@@ -35,27 +35,15 @@ impl Holds for Live {
     }
 }
 
-impl Holds for BuyOrder {
-    ghost order = { λ x. order_of x.0 };
+impl<S> Holds for SideOrder<S> {
+    ghost order = { λ x. order_of x.live };
 
     fn live(&self) -> Live {
-        self.0
+        self.live
     }
 
     fn hold(&mut self, live: Live) {
-        self.0 = live;
-    }
-}
-
-impl Holds for SellOrder {
-    ghost order = { λ x. order_of x.0 };
-
-    fn live(&self) -> Live {
-        self.0
-    }
-
-    fn hold(&mut self, live: Live) {
-        self.0 = live;
+        self.live = live;
     }
 }
 
@@ -63,22 +51,15 @@ impl Holds for SellOrder {
 pub fn position<H: Holds>(run: &[H], number: u32) -> Option<usize>
     ensures { MatchOption result (find_in (map H.order run.now) number ≡ None) (λ i. (i < length run.now) × Stands (map H.order run.now) number i) }
 {
-    for (i, item) in run.iter().enumerate() {
-        if item.live().number == number {
-            return Some(i);
-        }
-    }
-    None
+    run.iter().position(|item| item.live().number == number)
 }
 
 /// The order of a number in the run.
 pub fn find_in<H: Holds>(run: &[H], number: u32) -> Option<Live>
     ensures { seen result ≡ find_in (map H.order run.now) number }
 {
-    match position(run, number) {
-        Some(i) => Some(run[i].live()),
-        None => None,
-    }
+    let i = position(run, number)?;
+    Some(run[i].live())
 }
 
 /// Cuts the order of a number in the run; `None` if the run has none.
@@ -99,10 +80,7 @@ pub fn cut_in<H: Holds + Copy>(
     }
     match live.body.less(quantity) {
         Some(body) => {
-            item.hold(Live {
-                number: live.number,
-                body,
-            });
+            item.hold(Live { body, ..live });
             run[i] = item;
         }
         None => {

@@ -2,11 +2,13 @@
 ghost use Rattle.std.specs.Prelude.{◌≡◌};
 ghost use Rattle.book.specs.Meaning.{order_of, meets};
 ghost use Rattle.book.specs.Ranks.{before};
+ghost use Rattle.book.specs.declared.orders.Side.{Side};
 ghost use Rattle.book.specs.declared.orders.Side.TheVariants.{Buy as OfBuys, Sell as OfSells};
 ghost use Rattle.std.proofs.Common.{rules};
 
 use crate::orders::{Live, Side};
 use ranking::Ranked;
+use std::marker::PhantomData;
 
 /// Whether an order of a side goes before another of it: by a better limit, or an equal one and a lower number.
 pub fn outranks(side: Side, order: &Live, other: &Live) -> bool
@@ -29,42 +31,57 @@ pub fn trades_at(side: Side, m: u32, limit: u32) -> bool
     }
 }
 
-/// A live order among the buys.
+/// A side, as a type.
+pub trait OneSide: Copy {
+    ghost SIDE: { Side };
+
+    /// The side.
+    const SIDE: Side;
+}
+
+/// The side of the buys.
 #[derive(Clone, Copy)]
-pub struct BuyOrder(pub Live);
+pub struct Buys;
 
-/// A live order among the sells.
+/// The side of the sells.
 #[derive(Clone, Copy)]
-pub struct SellOrder(pub Live);
+pub struct Sells;
 
-impl Ranked for BuyOrder {
-    ghost before = { λ x y. before OfBuys (order_of x.0) (order_of y.0) };
+impl OneSide for Buys {
+    ghost SIDE = { OfBuys };
 
-    ghost price = { λ x. x.0.body.limit };
+    const SIDE: Side = Side::Buy;
+}
 
-    ghost number = { λ x. x.0.number };
+impl OneSide for Sells {
+    ghost SIDE = { OfSells };
 
-    ghost irreflexive = { Prim.search rules };
+    const SIDE: Side = Side::Sell;
+}
 
-    ghost transitive = { Prim.search rules };
+/// A live order among those of one side.
+#[derive(Clone, Copy)]
+pub struct SideOrder<S> {
+    pub live: Live,
+    side: PhantomData<S>,
+}
 
-    ghost level_price = { Prim.search rules };
-
-    ghost level_number = { Prim.search rules };
-
-    ghost alike = { Prim.search rules };
-
-    fn goes_before(&self, other: &BuyOrder) -> bool {
-        outranks(Side::Buy, &self.0, &other.0)
+impl<S: OneSide> SideOrder<S> {
+    /// The order among those of the side.
+    pub fn new(live: Live) -> SideOrder<S>
+        ensures { result.live ≡ live }
+    {
+        let side = PhantomData;
+        SideOrder { live, side }
     }
 }
 
-impl Ranked for SellOrder {
-    ghost before = { λ x y. before OfSells (order_of x.0) (order_of y.0) };
+impl<S: OneSide> Ranked for SideOrder<S> {
+    ghost before = { λ x y. before S.SIDE (order_of x.live) (order_of y.live) };
 
-    ghost price = { λ x. x.0.body.limit };
+    ghost price = { λ x. x.live.body.limit };
 
-    ghost number = { λ x. x.0.number };
+    ghost number = { λ x. x.live.number };
 
     ghost irreflexive = { Prim.search rules };
 
@@ -76,7 +93,7 @@ impl Ranked for SellOrder {
 
     ghost alike = { Prim.search rules };
 
-    fn goes_before(&self, other: &SellOrder) -> bool {
-        outranks(Side::Sell, &self.0, &other.0)
+    fn goes_before(&self, other: &SideOrder<S>) -> bool {
+        outranks(S::SIDE, &self.live, &other.live)
     }
 }

@@ -8,7 +8,7 @@ use crate::books::OrderBook;
 use crate::orders::{Live, Side};
 
 /// The best buy and the best sell, and how many contracts trade between them.
-#[derive(Clone, Copy)]
+#[derive(Clone, Copy, Debug, PartialEq, Eq)]
 pub struct TopOfBook {
     pub buy: Option<Live>,
     pub sell: Option<Live>,
@@ -19,16 +19,12 @@ pub struct TopOfBook {
 fn traded(buy: Option<Live>, sell: Option<Live>) -> u32
     ensures { result ≡ between (seen buy) (seen sell) }
 {
-    let Some(buy) = buy else {
-        return 0;
-    };
-    let Some(sell) = sell else {
-        return 0;
-    };
-    if sell.body.limit > buy.body.limit {
-        return 0;
+    match (buy, sell) {
+        (Some(buy), Some(sell)) if sell.body.limit <= buy.body.limit => {
+            buy.body.quantity.min(sell.body.quantity)
+        }
+        _ => 0,
     }
-    buy.body.quantity.min(sell.body.quantity)
 }
 
 /// The best order of each side of the book, and what trades between them.

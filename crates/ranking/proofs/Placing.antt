@@ -1,8 +1,11 @@
 -- What placing an item in a run gives, place by place, and that it keeps a run in rank. Assumes nothing.
-use Rattle.std.proofs.Common.{◌≡◌, ℕ, ◌+◌, ◌-◌, ◌<◌, ◌≤◌, Bool, true, false, not, ◌&&◌, List, [], ◌∷◌, ◌++◌, length, get_or, take, drop, sym, refl, ap, ◌∙◌, subst, ⊎_elim, append_assoc, append-nil, arith, length-append}
+use Rattle.std.proofs.Common.{◌≡◌, ℕ, zero, suc, ◌+◌, ◌-◌, ◌<◌, ◌≤◌, Bool, true, false, cond, not, ◌&&◌, List, [], ◌∷◌, ◌++◌, length, get_or, take, drop, sym, refl, ap, ◌∙◌, subst, ⊎_elim, append-nil, arith, length-append}
 use borrow.Rule.Slice.PartMut.{put_mid}
-use Rattle.std.proofs.lemmas.List.{take_more, take_rest, length_push, get_or_push, drop_more, drop_all, take_at, drop_at, take-append-le, drop-append-le, length-drop}
-use Rattle.std.proofs.lemmas.Bool.{cond-true, cond-false, cases_Bool, both_ways, and_parts, and_from, and_left, and_right, not-true, not_from_false}
+use Rattle.std.proofs.lemmas.List.{take_rest, length_push, get_or_push, drop_all, take_at, drop_at, take-append-le, drop-append-le, length-drop}
+use Rattle.std.proofs.lemmas.Bool.{cond-true, cond-false, cases_Bool, both_ways, and_parts, and_from, and_left, and_right, not-true, not-false, not_from_false}
+use Rattle.std.proofs.lemmas.List.Sums.{prefix_len-le-length}
+use native.Mathlib.Numerals.{unary_clauses}
+use Rattle.std.specs.List.{position_or_len, AllAdjacentBelow, IsAllAdjacentAnswer, slice_index_or}
 use Rattle.ranking.specs.Runs.{placed, none_before, in_rank}
 
 module _ {X : Type 0} (before : X → X → Bool) (x : X) where
@@ -18,26 +21,15 @@ module _ {X : Type 0} (before : X → X → Bool) (x : X) where
   unfolding placed
   placed_later y ys f = cond-false (before x y) _ _ f
 
-  -- i items of the run stay in front
-  abbrev pub Passed : List X → ℕ → Type 0
-  Passed run i = placed before x run ≡ take i run ++ placed before x (drop i run)
-
-  module _ (run : List X) (i : ℕ) (y : X) (inside : i < length run) (is : y ≡ get_or run i y) (p : Passed run i) where
-    next : drop i run ≡ y ∷ drop (i + 1) run
-    next = drop_more run i y inside ∙ ap (λ z. z ∷ drop (i + 1) run) (sym is)
-
-    pub passed_here : before x y ≡ true → placed before x run ≡ take i run ++ (x ∷ drop i run)
-    passed_here t = p ∙ ap (λ ys. take i run ++ placed before x ys) next ∙ ap (λ ys. take i run ++ ys) (placed_here y (drop (i + 1) run) t ∙ ap (λ ys. x ∷ ys) (sym next))
-
-    pub passed_more : before x y ≡ false → Passed run (i + 1)
-    passed_more f =
-        let front : take (i + 1) run ≡ take i run ++ y ∷ [] = take_more run i y inside ∙ ap (λ z. take i run ++ z ∷ []) (sym is) in
-        p ∙ ap (λ ys. take i run ++ placed before x ys) next ∙ ap (λ ys. take i run ++ ys) (placed_later y (drop (i + 1) run) f) ∙ sym (append_assoc (take i run) (y ∷ []) (placed before x (drop (i + 1) run))) ∙ ap (λ ys. ys ++ placed before x (drop (i + 1) run)) (sym front)
-
-  pub passed_all : (run : List X) (i : ℕ) → length run ≤ i → Passed run i → placed before x run ≡ take i run ++ (x ∷ drop i run)
-  passed_all run i past p =
-      let none = drop_all i run past in
-      p ∙ ap (λ ys. take i run ++ placed before x ys) none ∙ ap (λ ys. take i run ++ ys) (placed_none ∙ ap (λ ys. x ∷ ys) (sym none))
+  -- the item stands in front of the first that it goes before
+  pub placed_at : (run : List X) → placed before x run ≡ take (position_or_len (before x) run) run ++ (x ∷ drop (position_or_len (before x) run) run)
+  placed_at [] = placed_none
+  placed_at (y ∷ ys) = let n = position_or_len (before x) ys in let rest = placed_at ys in
+      let later : before x y ≡ false → position_or_len (before x) (y ∷ ys) ≡ suc n = λ f. ap (λ b. cond (not b) (1 + n) 0) f ∙ omega arith in
+      ⊎_elim
+      (λ t. placed_here y ys t ∙ sym (ap (λ i. take i (y ∷ ys) ++ (x ∷ drop i (y ∷ ys))) (ap (λ b. cond (not b) (1 + n) 0) t)))
+      (λ f. placed_later y ys f ∙ ap (λ zs. y ∷ zs) rest ∙ sym (ap (λ i. take i (y ∷ ys) ++ (x ∷ drop i (y ∷ ys))) (later f)))
+      (cases_Bool (before x y))
 
 -- the run of xs and then x, with what stands from a place on turned so that x comes first
 pub turned : {X : Type 0} (xs : List X) (x : X) (place : ℕ) → place ≤ length xs → (part : List X) → part ≡ drop place (xs ++ x ∷ []) → drop (length part - 1) part ++ take (length part - 1) part ≡ x ∷ drop place xs
@@ -102,6 +94,18 @@ module _ {X : Type 0} (before : X → X → Bool) (irreflexive : (x : X) → bef
       ap (in_rank before) (placed_later before x y ys later) ∙ ranked_cons before y (placed before x ys) ∙ and_from (none_before before y (placed before x ys)) (in_rank before (placed before x ys)) (none_placed y x ys later both.0) (rank_placed x ys both.1))
       (cases_Bool (before x y))
 
+rank_broken : {X : Type 0} (before : X → X → Bool) (x y : X) (ys : List X) → before y x ≡ true → in_rank before (x ∷ y ∷ ys) ≡ false
+rank_broken before x y ys t =
+    ranked_cons before x (y ∷ ys) ∙ and_left (none_before before x (y ∷ ys)) (in_rank before (y ∷ ys)) (none_cons before x y ys ∙ ap (λ b. not b && none_before before x ys) t)
+
+-- a pair of neighbours that is out of rank tells that the run is
+rank_broken_at : {X : Type 0} (before : X → X → Bool) (k : ℕ) (xs : List X) → k + 1 < length xs → ((d : X) → false ≡ not (before (slice_index_or xs (k + 1) d) (slice_index_or xs k d))) → in_rank before xs ≡ false
+rank_broken_at before k [] h out = absurd (omega arith)
+rank_broken_at before k (x ∷ []) h out = absurd (omega arith)
+rank_broken_at before zero (x ∷ y ∷ ys) h out = rank_broken before x y ys (not-false (before y x) (sym (out x)))
+rank_broken_at before (suc k) (x ∷ y ∷ ys) h out =
+    ranked_cons before x (y ∷ ys) ∙ and_right (none_before before x (y ∷ ys)) (in_rank before (y ∷ ys)) (rank_broken_at before k (y ∷ ys) (omega arith) (λ d. simp unary_clauses (simp unary_clauses at (out d))))
+
 -- Neighbours that are in rank tell that a run is.
 module _ {X : Type 0} (before : X → X → Bool) (price number : X → ℕ) (transitive : (x y z : X) → before x y ≡ true → before y z ≡ true → before x z ≡ true) (level_price : (x y : X) → before x y ≡ false → before y x ≡ false → price x ≡ price y) (level_number : (x y : X) → before x y ≡ false → before y x ≡ false → number x ≡ number y) (alike : (x y z : X) → price x ≡ price y → number x ≡ number y → before z x ≡ before z y) where
   not_past : (x y z : X) → before y x ≡ false → before z y ≡ false → before z x ≡ false
@@ -114,7 +118,7 @@ module _ {X : Type 0} (before : X → X → Bool) (price number : X → ℕ) (tr
       (λ g. g)
       (cases_Bool (before z x))
 
-  pub rank_on : (x y : X) (ys : List X) → before y x ≡ false → in_rank before (y ∷ ys) ≡ in_rank before (x ∷ y ∷ ys)
+  rank_on : (x y : X) (ys : List X) → before y x ≡ false → in_rank before (y ∷ ys) ≡ in_rank before (x ∷ y ∷ ys)
   rank_on x y ys f =
       ⊎_elim
       (λ t.
@@ -124,35 +128,27 @@ module _ {X : Type 0} (before : X → X → Bool) (price number : X → ℕ) (tr
       (λ g. g ∙ sym (ranked_cons before x (y ∷ ys) ∙ and_right (none_before before x (y ∷ ys)) (in_rank before (y ∷ ys)) g))
       (cases_Bool (in_rank before (y ∷ ys)))
 
-pub rank_broken : {X : Type 0} (before : X → X → Bool) (x y : X) (ys : List X) → before y x ≡ true → in_rank before (x ∷ y ∷ ys) ≡ false
-rank_broken before x y ys t =
-    ranked_cons before x (y ∷ ys) ∙ and_left (none_before before x (y ∷ ys)) (in_rank before (y ∷ ys)) (none_cons before x y ys ∙ ap (λ b. not b && none_before before x ys) t)
+  rank_of_pairs : (xs : List X) → AllAdjacentBelow (λ x y. true ≡ not (before y x)) xs (length xs) → in_rank before xs ≡ true
+  rank_of_pairs [] h = ranked_none before
+  rank_of_pairs (x ∷ []) h = ranked_one before x
+  rank_of_pairs (x ∷ y ∷ ys) h = sym (rank_on x y ys (not-true (before y x) (sym (h 0 y (omega arith))))) ∙ rank_of_pairs (y ∷ ys) (λ k d inside. simp unary_clauses (simp unary_clauses at (h (k + 1) d (omega arith))))
 
--- a run of one item or none
-pub ranked_short : {X : Type 0} (before : X → X → Bool) (xs : List X) → length xs ≤ 1 → in_rank before xs ≡ true
-ranked_short before [] h = ranked_none before
-ranked_short before (x ∷ []) h = ranked_one before x
-ranked_short before (x ∷ y ∷ xs) h = absurd (omega arith)
-
--- what stands from an item on, and from the one before it
-module _ {X : Type 0} (run : List X) (i : ℕ) where
-  pub one_at : (y : X) → i < length run → y ≡ get_or run i y → drop (i + 1 - 1) run ≡ y ∷ drop (i + 1) run
-  one_at y inside is = let e : i + 1 - 1 ≡ i = omega arith in ap (λ k. drop k run) e ∙ drop_more run i y inside ∙ ap (λ z. z ∷ drop (i + 1) run) (sym is)
-
-  pub two_at : (x y : X) → 0 < i → i < length run → x ≡ get_or run (i - 1) x → y ≡ get_or run i y → drop (i - 1) run ≡ x ∷ y ∷ drop (i + 1) run
-  two_at x y some inside was is =
-      let e : i - 1 + 1 ≡ i + 1 - 1 = omega arith in
-      drop_more run (i - 1) x (omega arith) ∙ ap (λ z. z ∷ drop (i - 1 + 1) run) (sym was) ∙ ap (λ k. x ∷ drop k run) e ∙ ap (λ ys. x ∷ ys) (one_at y inside is)
+  -- what was answered of each two neighbours tells whether a run is in rank
+  pub rank_told : (xs : List X) (r : Bool) → IsAllAdjacentAnswer (λ x y b. b ≡ not (before y x)) xs r → r ≡ in_rank before xs
+  rank_told xs true h = sym (rank_of_pairs xs h)
+  rank_told xs false h = sym (rank_broken_at before h.0 xs h.1 h.2)
 
 -- The last item of a run settled, as the code does it: `front` is what stands before it, and what stands from its place on is turned.
 module _ {X : Type 0} (before : X → X → Bool) (run front part part' : List X) (place : ℕ) (item : X) where
-  pub settled : item ≡ get_or run (length run - 1) item → front ≡ take (length run - 1 - 0) run → place ≤ length front → placed before item front ≡ take place front ++ (item ∷ drop place front)
+  pub settled : item ≡ get_or run (length run - 1) item → front ≡ take (length run - 1 - 0) run → place ≡ position_or_len (before item) front
       → part ≡ take (length run - place) (drop place run) → part' ≡ drop (length part - 1) part ++ take (length part - 1) part
       → (xs : List X) (x : X) → run ≡ xs ++ x ∷ [] → put_mid place (length run - place) run part' ≡ placed before x xs
-  settled last cut within value of turn xs x is =
+  settled last cut at_first of turn xs x is =
       let long : length run ≡ length xs + 1 = ap length is ∙ length_push xs x in
       let first : length run - 1 - 0 ≡ length xs = omega arith in
       let front_is : front ≡ xs = cut ∙ ap (λ k. take k run) first ∙ ap (take (length xs)) is ∙ take_at xs (x ∷ []) (length xs) refl in
+      let within : place ≤ length front = rw at_first (prefix_len-le-length (λ y. not (before item y)) front) in
+      let value : placed before item front ≡ take place front ++ (item ∷ drop place front) = rw at_first (placed_at before item front) in
       let at : length run - 1 ≡ length xs = omega arith in
       let item_is : item ≡ x = last ∙ ap (λ k. get_or run k item) at ∙ ap (λ ys. get_or ys (length xs) item) is ∙ get_or_push xs x item (length xs) refl in
       let inside : place ≤ length xs = omega (arith, ap length front_is) in

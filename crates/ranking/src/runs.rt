@@ -1,5 +1,6 @@
 // Runs of ranked items.
 ghost use Rattle.std.specs.Prelude.{◌≡◌, ◌≤◌, true, List, [], ◌∷◌, ◌++◌, length, take, drop};
+ghost use Rattle.std.specs.List.{position_or_len};
 ghost use Rattle.ranking.specs.Runs.{placed, in_rank};
 
 use crate::rankings::Ranked;
@@ -7,14 +8,11 @@ use crate::rankings::Ranked;
 /// The place of the first item of the run that `item` goes before, or the run's length.
 fn place_of<T: Ranked>(run: &[T], item: &T) -> usize
     ensures within { result ≤ length run.now }
-    ensures value { placed T.before item.now run.now ≡ take result run.now ++ (item.now ∷ drop result run.now) }
+    ensures value { result ≡ position_or_len (T.before item.now) run.now }
 {
-    for (i, other) in run.iter().enumerate() {
-        if item.goes_before(other) {
-            return i;
-        }
-    }
-    run.len()
+    run.iter()
+        .position(|other| item.goes_before(other))
+        .unwrap_or(run.len())
 }
 
 /// Moves the last item of the run to its place among the others: just before the first that it goes before, or last.
@@ -36,10 +34,5 @@ pub fn settle_last<T: Ranked + Copy>(run: &mut [T])
 pub fn is_in_rank<T: Ranked>(run: &[T]) -> bool
     ensures { result ≡ in_rank T.before run.now }
 {
-    for i in 1..run.len() {
-        if run[i].goes_before(&run[i - 1]) {
-            return false;
-        }
-    }
-    true
+    run.is_sorted_by(|one, other| !other.goes_before(one))
 }

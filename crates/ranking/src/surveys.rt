@@ -4,8 +4,8 @@ ghost use Rattle.std.proofs.Common.{rules};
 
 use crate::rankings::Ranked;
 
-/// A price that a contributor gave to the survey for a closing price.
-#[derive(Clone, Copy, Debug, PartialEq, Eq)]
+/// A price that a contributor gave to the survey for a closing price. Prices compare first, then codes.
+#[derive(Clone, Copy, Debug, PartialEq, Eq, PartialOrd, Ord)]
 pub struct SurveyPrice {
     /// The price, in centavos.
     pub price: u32,
@@ -31,7 +31,6 @@ impl Ranked for SurveyPrice {
     ghost alike = { Prim.search rules };
 
     fn goes_before(&self, other: &SurveyPrice) -> bool {
-        self.price < other.price
-            || self.price == other.price && self.contributor < other.contributor
+        self < other
     }
 }

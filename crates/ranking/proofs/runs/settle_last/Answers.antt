@@ -15,7 +15,7 @@ pub returns : goal.returns
 returns g c =
     let before = g.T.Ranked.before in
     let laws = g.met.T.Ranked in
-    let done = settled before c.args.run.now _ _ c.rotate_right.new.self c.place_of-place.result c.index-run-len.result c.index-run-len.is refl c.place_of-place.ensures.within c.place_of-place.ensures.value refl c.rotate_right.ensures.after in
+    let done = settled before c.args.run.now _ _ c.rotate_right.new.self c.place_of-place.result c.index-run-len.result c.index-run-len.is refl c.place_of-place.ensures.value refl c.rotate_right.ensures.after in
     record {
       placed = done;
       empty = λ is. absurd (omega (arith, ap length is));
