@@ -1,10 +1,11 @@
 -- What a make of book shows of each way that an entry or a cut goes. Assumes nothing.
-use Rattle.std.proofs.Common.{◌≡◌, ℕ, ◌+◌, ◌<◌, ◌≤◌, eqb, ltb, length, Some, None, Ok, Err, Result, sym, ap, ◌∙◌}
-use Rattle.std.proofs.lemmas.Bool.{eq-eqb, ne_eqb, lt-ltb, le-ltb, or_left, or_right, or_from}
+use Rattle.std.specs.Result.{result_unwrap_or}
+use Rattle.std.proofs.Common.{◌≡◌, ℕ, ◌+◌, ◌<◌, ◌≤◌, Bool, true, false, cond, eqb, ltb, length, refl, arith, Some, None, Ok, Err, Result, sym, ap, ◌∙◌}
+use Rattle.std.proofs.lemmas.Bool.{both_ways, eq-eqb, ne_eqb, lt-ltb, le-ltb, or_left, or_right, or_from}
 use Rattle.book.specs.declared.orders.Body.{Body}
 use Rattle.book.specs.declared.refusals.BookRefusal.{BookRefusal}
 use Rattle.book.specs.declared.refusals.BookRefusal.TheVariants.{UnknownOrder, CutRange, Full, NumbersSpent}
-use Rattle.book.specs.Meaning.{Order, Book, enter_answer, enter_after, entered, find_in, cut_answer, cut_after, cut_judged, cut, unless_refused}
+use Rattle.book.specs.Meaning.{Order, Book, number_answer, number_after, enter_answer, enter_after, entered, find_in, cut_answer, cut_after, cut_judged, cut, unless_refused}
 
 -- a call answered r and left m', where the definitions have r₀ and m₀
 pub record Went {T : Type 0} (r r₀ : Result T BookRefusal) (m' m₀ : Book) : Type 0 where
@@ -14,18 +15,30 @@ pub record Went {T : Type 0} (r r₀ : Result T BookRefusal) (m' m₀ : Book) : 
 went : {T : Type 0} (r r₀ : Result T BookRefusal) (new old : Book) → r ≡ r₀ → Went r r₀ (unless_refused r new old) (unless_refused r₀ new old)
 went r r₀ new old e = record { answer = e; after = ap (λ x. unless_refused x new old) e }
 
+-- What a number that was given out tells.
+module _ (places last live n : ℕ) where
+  given : (a b : Bool) → Ok n ≡ cond a (Err Full) (cond b (Err NumbersSpent) (Ok (last + 1))) → (a ≡ false) × (b ≡ false) × (n ≡ last + 1)
+  given true b e = absurd (grind arith)
+  given false true e = absurd (grind arith)
+  given false false e = (refl, refl, grind arith)
+
+  pub number_given : Ok n ≡ number_answer places last live → (live ≡ places → ⊥) × (last ≡ 60000 → ⊥) × (n ≡ last + 1)
+  number_given e = let told = given (eqb live places) (eqb last 60000) e in (λ x. absurd (both_ways (eqb live places) told.0 (eq-eqb live places x)), λ x. absurd (both_ways (eqb last 60000) told.1 (eq-eqb last 60000 x)), told.2)
+
+  pub number_kept : Ok n ≡ number_answer places last live → number_after places last live ≡ n
+  number_kept e = sym (ap (λ r. result_unwrap_or r last) e)
+
+pub number_refused : (places last live : ℕ) (why : BookRefusal) → Err why ≡ number_answer places last live → number_after places last live ≡ last
+number_refused places last live why e = sym (ap (λ r. result_unwrap_or r last) e)
+
 module _ (m : Book) (body : Body) where
-  pub enter_full : length m.orders ≡ m.places → Went (Err Full) (enter_answer m) m (enter_after m body)
+  pub enter_refused : (why : BookRefusal) → Err why ≡ number_answer m.places m.last (length m.orders) → Went (Err why) (enter_answer m) m (enter_after m body)
   unfolding enter_answer enter_after
-  enter_full full = let t = eq-eqb (length m.orders) m.places full in went (Err Full) _ (entered m body) m (rw t)
+  enter_refused why e = went (Err why) _ (entered m body) m e
 
-  pub enter_spent : (length m.orders ≡ m.places → ⊥) → m.last ≡ 60000 → Went (Err NumbersSpent) (enter_answer m) m (enter_after m body)
+  pub enter_taken : (n : ℕ) → Ok n ≡ number_answer m.places m.last (length m.orders) → Went (Ok n) (enter_answer m) (entered m body) (enter_after m body)
   unfolding enter_answer enter_after
-  enter_spent room last = let t = ne_eqb (length m.orders) m.places room in let u = eq-eqb m.last 60000 last in went (Err NumbersSpent) _ (entered m body) m (rw (t, u))
-
-  pub enter_taken : (length m.orders ≡ m.places → ⊥) → (m.last ≡ 60000 → ⊥) → Went (Ok (m.last + 1)) (enter_answer m) (entered m body) (enter_after m body)
-  unfolding enter_answer enter_after
-  enter_taken room last = let t = ne_eqb (length m.orders) m.places room in let u = ne_eqb m.last 60000 last in went (Ok (m.last + 1)) _ (entered m body) m (rw (t, u))
+  enter_taken n e = went (Ok n) _ (entered m body) m e
 
 module _ (m : Book) (n q : ℕ) where
   pub cut_unknown : find_in m.orders n ≡ None → Went (Err UnknownOrder) (cut_answer m n q) m (cut_after m n q)

@@ -1,19 +1,17 @@
 -- Where an order stands in a run, and what is found and cut there. Assumes nothing.
-use Rattle.std.proofs.Common.{◌≡◌, ℕ, suc, ◌+◌, ◌-◌, ◌<◌, ◌≤◌, Bool, true, cond, not, subst, ◌||◌, eqb, ltb, ◌⊎◌, List, [], ◌∷◌, ◌++◌, map, length, get_or, take, drop, set, Some, None, Ok, Err, Option, Result, sym, refl, ap, ◌∙◌, ⊎_elim, add-one, arith}
+use Rattle.std.proofs.Common.{◌≡◌, ℕ, suc, ◌+◌, ◌<◌, ◌≤◌, Bool, cond, not, subst, eqb, ltb, List, [], ◌∷◌, ◌++◌, map, length, get_or, take, drop, set, Some, None, Option, Result, sym, refl, ap, ◌∙◌, ⊎_elim, add-one, arith}
 use lib.ListN.{length-map}
 use Rattle.std.specs.List.{position_or_len}
 use Rattle.std.specs.Option.{MatchOption}
 use Rattle.std.proofs.lemmas.List.Sums.{passes_at_first}
 use Rattle.std.proofs.lemmas.List.{take_all, drop_more, take-append-drop, get_or_default, get_or-map, get_or_at, length-take-le, map-set, map-append, take-map, drop-map, set_split}
-use Rattle.std.proofs.lemmas.Bool.{cond-true, cond-false, eq-eqb, ne_eqb, lt-ltb, le-ltb, or_left, or_right, or_from, cases_eq, cases_Bool, ltb-true, ltb-false, eqb-true}
+use Rattle.std.proofs.lemmas.Bool.{cond-true, cond-false, eq-eqb, ne_eqb, cases_eq, cases_Bool, ltb-true, ltb-false, eqb-true}
 use Rattle.std.specs.List.{remove}
 use Rattle.std.specs.Option.{option_map}
-use Rattle.book.specs.declared.orders.Body.{Body}
 use Rattle.book.specs.declared.refusals.BookRefusal.{BookRefusal}
-use Rattle.book.specs.declared.refusals.BookRefusal.TheVariants.{CutRange}
-use Rattle.book.specs.Meaning.{Order, under, find_in, cut_in, cut_judged, left_of}
+use Rattle.book.specs.Meaning.{Order, find_in, cut_in, cut_judged, left_of}
 use Rattle.book.specs.Runs.{Stands, run_cut}
-use Rattle.book.proofs.Turns.{lessened, cut_here, cut_later}
+use Rattle.book.proofs.Turns.{cut_here, cut_later}
 
 pub none_found : (n : ℕ) → find_in [] n ≡ None
 unfolding find_in
@@ -110,34 +108,28 @@ module _ {os : List Order} {n i : ℕ} (s : Stands os n i) where
 
 -- the code's item at the place, and what is answered and left of a cut of it
 module _ {H : Type 0} (order : H → Order) (run : List H) (n q i : ℕ) (item : H) (inside : i < length run) (is : item ≡ get_or run i item) (s : Stands (map order run) n i) where
-  pub holds : s.order ≡ order item
+  holds : s.order ≡ order item
   holds = sym (stands_at s (simp length-map inside) (order item)) ∙ get_or-map order run i item (order item) inside ∙ ap order (sym is)
 
   finds : find_in (map order run) n ≡ Some (order item)
   finds = stands_found s ∙ ap Some holds
 
-  pub cut_refused : (q ≡ 0) ⊎ ((q ≡ 0 → ⊥) × ((order item).quantity < q)) → Some (Err CutRange) ≡ run_cut (map order run) n q
-  cut_refused bad =
-      let t : (eqb q 0 || ltb (order item).quantity q) ≡ true = ⊎_elim (λ e. or_left (eqb q 0) (ltb (order item).quantity q) (eq-eqb q 0 e)) (λ h. or_right (eqb q 0) (ltb (order item).quantity q) (lt-ltb (order item).quantity q h.1)) bad in
-      sym (ap (option_map (λ o. cut_judged (Some o) q)) finds ∙ ap Some (cond-true (eqb q 0 || ltb (order item).quantity q) _ _ t))
+  pub cut_told : (r : Result (Unit {0}) BookRefusal) → cut_judged (Some (order item)) q ≡ r → Some r ≡ run_cut (map order run) n q
+  cut_told r e = sym (ap (option_map (λ o. cut_judged (Some o) q)) finds ∙ ap Some e)
 
-  pub cut_accepted : (q ≡ 0 → ⊥) → q ≤ (order item).quantity → Some (Ok tt) ≡ run_cut (map order run) n q
-  cut_accepted some held =
-      let t = or_from (eqb q 0) (ltb (order item).quantity q) (ne_eqb q 0 some) (le-ltb (order item).quantity q held) in
-      sym (ap (option_map (λ o. cut_judged (Some o) q)) finds ∙ ap Some (cond-false (eqb q 0 || ltb (order item).quantity q) _ _ t))
+  pub cut_found : (r : Result (Unit {0}) BookRefusal) → cut_judged (Some (order item)) q ≡ r → r ≡ cut_judged (find_in (map order run) n) q
+  cut_found r e = sym (ap (λ o. cut_judged o q) finds ∙ e)
 
-  pub parts : cut_in (map order run) n q ≡ take i (map order run) ++ (left_of (order item) q ++ drop (i + 1) (map order run))
+  parts : cut_in (map order run) n q ≡ take i (map order run) ++ (left_of (order item) q ++ drop (i + 1) (map order run))
   parts = stands_cut s q ∙ ap (λ o. take i (map order run) ++ (left_of o q ++ drop (i + 1) (map order run))) holds
 
-  pub cut_less : q < (order item).quantity → (item' : H) → order item' ≡ lessened (order item) q → map order (set run i item') ≡ cut_in (map order run) n q
-  cut_less under item' e =
-      let kept : left_of (order item) q ≡ lessened (order item) q ∷ [] = cond-false (eqb (order item).quantity q) _ _ (ne_eqb (order item).quantity q (λ x. omega arith)) in
-      map-set order run i item' ∙ set_split (map order run) i (order item') (simp length-map inside) ∙ ap (λ o. take i (map order run) ++ o ∷ drop (suc i) (map order run)) e ∙ ap (λ k. take i (map order run) ++ lessened (order item) q ∷ drop k (map order run)) (sym (add-one i)) ∙ sym (parts ∙ ap (λ l. take i (map order run) ++ (l ++ drop (i + 1) (map order run))) kept)
+  pub cut_less : (item' : H) → order item' ∷ [] ≡ left_of (order item) q → map order (set run i item') ≡ cut_in (map order run) n q
+  cut_less item' kept =
+      map-set order run i item' ∙ set_split (map order run) i (order item') (simp length-map inside) ∙ ap (λ k. take i (map order run) ++ order item' ∷ drop k (map order run)) (sym (add-one i)) ∙ sym (parts ∙ ap (λ l. take i (map order run) ++ (l ++ drop (i + 1) (map order run))) (sym kept))
 
-  pub cut_whole : (order item).quantity ≡ q → map order (remove run i) ≡ cut_in (map order run) n q
-  cut_whole e =
-      let gone : left_of (order item) q ≡ [] = cond-true (eqb (order item).quantity q) _ _ (eq-eqb (order item).quantity q e) in
-      map-append order (take i run) (drop (suc i) run) ∙ ap (λ l. l ++ map order (drop (suc i) run)) (sym (take-map order i run)) ∙ ap (λ l. take i (map order run) ++ l) (sym (drop-map order (suc i) run)) ∙ ap (λ k. take i (map order run) ++ drop k (map order run)) (sym (add-one i)) ∙ sym (parts ∙ ap (λ l. take i (map order run) ++ (l ++ drop (i + 1) (map order run))) gone)
+  pub cut_whole : [] ≡ left_of (order item) q → map order (remove run i) ≡ cut_in (map order run) n q
+  cut_whole gone =
+      map-append order (take i run) (drop (suc i) run) ∙ ap (λ l. l ++ map order (drop (suc i) run)) (sym (take-map order i run)) ∙ ap (λ l. take i (map order run) ++ l) (sym (drop-map order (suc i) run)) ∙ ap (λ k. take i (map order run) ++ drop k (map order run)) (sym (add-one i)) ∙ sym (parts ∙ ap (λ l. take i (map order run) ++ (l ++ drop (i + 1) (map order run))) (sym gone))
 
 -- the order that an answer judges
 pub judged : (found : Option Order) (q : ℕ) (r : Result (Unit {0}) BookRefusal) → Some r ≡ option_map (λ o. cut_judged (Some o) q) found → (o : Order) × ((found ≡ Some o) × (r ≡ cut_judged found q))
@@ -147,9 +139,3 @@ judged (Some o) q r e = (o, (refl, grind arith))
 pub unjudged : (found : Option Order) (q : ℕ) → None ≡ option_map (λ o. cut_judged (Some o) q) found → found ≡ None
 unjudged None q e = refl
 unjudged (Some o) q e = absurd (grind arith)
-
--- the code's order with less
-pub live_less : (n : ℕ) (old new : Body) (o : Order) (q : ℕ) → under n old ≡ o → new.side ≡ old.side → new.limit ≡ old.limit → new.quantity ≡ old.quantity - q → under n new ≡ lessened o q
-live_less n old new o q e side limit quantity =
-    let same : under n new ≡ lessened (under n old) q = cc in
-    same ∙ ap (λ (x : Order). lessened x q) e

@@ -26,3 +26,8 @@ run_after (Some (Err why)) new old = old
 unfoldable pub all_of : Side → List Order → Bool
 all_of s [] = true
 all_of s (o ∷ os) = is_side s o.side && all_of s os
+
+-- the order that may be there, as a list
+abbrev pub those : Option Order → List Order
+those None = []
+those (Some o) = o ∷ []

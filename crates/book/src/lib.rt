@@ -14,6 +14,6 @@ pub use books::{LAST_NUMBER, MAX_PLACES, OrderBook};
 pub use intakes::Intake;
 pub use orders::{Body, Live, MAX_LIMIT, MAX_QUANTITY, Side};
 pub use refusals::BookRefusal;
-pub use runs::{Holds, cut_in, find_in, position};
+pub use runs::{Holds, cut_in, cut_live, find_in, position};
 pub use sides::{Buys, OneSide, Sells, SideOrder, outranks, trades_at};
 pub use tops::{TopOfBook, top_of_book};

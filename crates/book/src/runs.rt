@@ -1,7 +1,7 @@
 // Runs of items that hold a live order each: what the makes of book share.
-ghost use Rattle.std.specs.Prelude.{◌≡◌, ◌<◌, map, length, None, vec_capacity, MatchOption};
-ghost use Rattle.book.specs.Meaning.{Order, order_of, seen, find_in, cut_in};
-ghost use Rattle.book.specs.Runs.{Stands, run_cut, run_after};
+ghost use Rattle.std.specs.Prelude.{◌≡◌, ◌<◌, map, length, None, Some, Ok, Err, vec_capacity, MatchOption, MatchResult};
+ghost use Rattle.book.specs.Meaning.{Order, order_of, seen, find_in, cut_in, cut_judged, left_of};
+ghost use Rattle.book.specs.Runs.{Stands, run_cut, run_after, those};
 
 use crate::orders::Live;
 use crate::refusals::BookRefusal;
@@ -62,6 +62,19 @@ pub fn find_in<H: Holds>(run: &[H], number: u32) -> Option<Live>
     Some(run[i].live())
 }
 
+/// What a cut leaves of a live order; `None` if it leaves nothing.
+pub fn cut_live(live: Live, quantity: u32) -> Result<Option<Live>, BookRefusal>
+    ensures { MatchResult result (λ left. (cut_judged (Some (order_of live)) quantity ≡ Ok tt) × (those (seen left) ≡ left_of (order_of live) quantity)) (λ why. cut_judged (Some (order_of live)) quantity ≡ Err why) }
+{
+    if quantity == EMPTY_CUT || quantity > live.body.quantity {
+        return Err(BookRefusal::CutRange);
+    }
+    match live.body.less(quantity) {
+        Some(body) => Ok(Some(Live { body, ..live })),
+        None => Ok(None),
+    }
+}
+
 /// Cuts the order of a number in the run; `None` if the run has none.
 pub fn cut_in<H: Holds + Copy>(
     run: &mut Vec<H>,
@@ -74,18 +87,15 @@ pub fn cut_in<H: Holds + Copy>(
 {
     let i = position(run, number)?;
     let mut item = run[i];
-    let live = item.live();
-    if quantity == EMPTY_CUT || quantity > live.body.quantity {
-        return Some(Err(BookRefusal::CutRange));
-    }
-    match live.body.less(quantity) {
-        Some(body) => {
-            item.hold(Live { body, ..live });
+    match cut_live(item.live(), quantity) {
+        Ok(Some(live)) => {
+            item.hold(live);
             run[i] = item;
         }
-        None => {
+        Ok(None) => {
             let _ = run.remove(i);
         }
+        Err(why) => return Some(Err(why)),
     }
     Some(Ok(()))
 }

@@ -1,4 +1,4 @@
-mod Counts
-mod Loops
+mod Chains
+mod Counted
 mod Moving
 mod Tabling

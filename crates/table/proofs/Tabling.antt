@@ -1,14 +1,14 @@
 -- What an entry and a cut keep of a table. Assumes nothing.
 use Rattle.std.proofs.Common.{◌≡◌, ℕ, ◌+◌, ◌≤◌, true, cond, List, [], ◌∷◌, ◌++◌, length, is_ok, Ok, Err, Result, refl, ap, ◌∙◌, arith, length-append}
 use lib.ListN.{length-map}
-use Rattle.book.specs.declared.orders.Live.{Live}
+use Rattle.table.specs.declared.row.Row.{Row}
 use Rattle.book.specs.declared.refusals.BookRefusal.{BookRefusal}
 use Rattle.book.specs.Meaning.{Order, Book, rising, find_in, cut, cut_in, cut_judged, cut_answer, cut_after, unless_refused}
 use Rattle.book.proofs.Listing.{rising_cut, length_cut}
 use Rattle.book.proofs.Makes.{Went}
 use Rattle.table.specs.Tables.{orders_of}
 
-pub pushed_length : (run run' : List Live) (o : Order) → orders_of run' ≡ orders_of run ++ o ∷ [] → length run' ≡ length run + 1
+pub pushed_length : (run run' : List Row) (o : Order) → orders_of run' ≡ orders_of run ++ o ∷ [] → length run' ≡ length run + 1
 pushed_length run run' o e =
     let before : length (orders_of run) ≡ length run = simp length-map refl in
     let after : length (orders_of run') ≡ length run' = simp length-map refl in
@@ -18,7 +18,7 @@ cut_length : (os : List Order) (n q : ℕ) (r : Result (Unit {0}) BookRefusal) �
 cut_length os n q (Ok u) = length_cut n q os
 cut_length os n q (Err why) = omega arith
 
-pub cut_fits : (places a b : ℕ) (run run' : List Live) (n q : ℕ) (r : Result (Unit {0}) BookRefusal) → a ≡ length run → b ≡ length run' → a ≤ places → orders_of run' ≡ cond (is_ok r) (cut_in (orders_of run) n q) (orders_of run) → b ≤ places
+pub cut_fits : (places a b : ℕ) (run run' : List Row) (n q : ℕ) (r : Result (Unit {0}) BookRefusal) → a ≡ length run → b ≡ length run' → a ≤ places → orders_of run' ≡ cond (is_ok r) (cut_in (orders_of run) n q) (orders_of run) → b ≤ places
 cut_fits places a b run run' n q r ea eb fits e =
     let before : length (orders_of run) ≡ length run = simp length-map refl in
     let after : length (orders_of run') ≡ length run' = simp length-map refl in

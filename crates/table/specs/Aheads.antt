@@ -1,8 +1,9 @@
 -- How many orders of its side go before an order. Assumes nothing.
-use Rattle.std.specs.Prelude.{ℕ, ◌+◌, ◌-◌, min, Bool, true, false, cond, ◌&&◌, List, [], ◌∷◌, map, Some, None, Option, ◌==◌}
+use Rattle.std.specs.Prelude.{ℕ, ◌+◌, ◌-◌, min, Bool, cond, ◌&&◌, List, [], ◌∷◌, map, Some, None, Option, ◌==◌}
 use Rattle.book.specs.declared.orders.Side.{Side}
-use Rattle.book.specs.Meaning.{Order, is_side}
+use Rattle.book.specs.Meaning.{Order, order_of, is_side}
 use Rattle.book.specs.Ranks.{before}
+use Rattle.table.specs.declared.row.Row.{Row}
 
 -- x is of y's side and goes before it
 abbrev pub ahead : Order → Order → Bool
@@ -17,16 +18,17 @@ counted (x ∷ xs) y = cond (ahead x y) 1 0 + counted xs y
 abbrev pub aheads_of : List Order → List ℕ
 aheads_of os = map (counted os) os
 
--- one more, if a word holds it, or one less
-abbrev pub moved : Bool → ℕ → ℕ
-moved true h = min (h + 1) 18446744073709551615
-moved false h = h - 1
+-- one more, if a word holds it
+abbrev pub raised : ℕ → ℕ
+raised h = min (h + 1) 18446744073709551615
 
--- the counts of the orders, moved for those that o goes before
-unfoldable pub shifted : Bool → Order → List Order → List ℕ → List ℕ
-shifted up o [] hs = hs
-shifted up o (x ∷ xs) [] = []
-shifted up o (x ∷ xs) (h ∷ hs) = cond (ahead o x) (moved up h) h ∷ shifted up o xs hs
+-- and one less
+abbrev pub lowered : ℕ → ℕ
+lowered h = h - 1
+
+-- a row with its count moved, if o goes before its order
+abbrev pub shifted : (ℕ → ℕ) → Order → Row → Row
+shifted moved o x = record { live = x.live; ahead = cond (ahead o (order_of x.live)) (moved x.ahead) x.ahead }
 
 -- the first order of a side with a count
 unfoldable pub first_at : Side → ℕ → List Order → List ℕ → Option Order

@@ -1,7 +1,8 @@
 // The arrival table: a make of book that keeps its orders in the order of entry.
 #![tactic(auto)]
 
-mod columns;
+mod counts;
+mod row;
 mod rows;
 mod table_books;
 mod tables;

@@ -1,65 +1,58 @@
-use Rattle.std.proofs.Common.{◌≡◌, ◌+◌, ◌≤◌, length, sym, refl, ap, ◌∙◌, subst, arith}
+use Rattle.std.proofs.Common.{◌≡◌, ◌+◌, ◌≤◌, [], ◌∷◌, ◌++◌, length, sym, ap, ◌∙◌, subst, arith}
 use lib.ListN.{length-map}
-use Rattle.book.specs.Meaning.{Book, under, entered, rising}
+use Rattle.std.proofs.lemmas.Result.{err_from_is_err_and}
+use Rattle.book.specs.Meaning.{Book, under, number_answer, entered, rising}
 use Rattle.book.proofs.Listing.{rising_push}
-use Rattle.book.proofs.Makes.{enter_full, enter_spent, enter_taken}
+use Rattle.book.proofs.Makes.{number_given, number_kept, number_refused, enter_refused, enter_taken}
 use Rattle.table.specs.Tables.{orders_of, table_book}
 use Rattle.table.proofs.Tabling.{pushed_length}
 use Rattle.table.proofs.table_books.TableOrderBook.enter.Goals as goal
 
-pub returns-then-len-self : goal.returns-then-len-self
-returns-then-len-self c =
+pub returns-in_err-number : goal.returns-in_err-number
+returns-in_err-number c =
     let b = c.args.self.now in
-    let full : length (orders_of b.orders.items) ≡ b.places = simp length-map (omega (arith, c.len.ensures, b.orders.ok.0)) in
-    let went = enter_full (table_book b.places b.last b.orders.items) c.args.body full in
-    record { answer = went.answer; after = went.after }
+    let m = table_book b.intake.places b.intake.last b.rows.run.items in
+    let why = c.in_err-number.field-0.0 in
+    let told = c.in_err-number.ensures in
+    let count : c.len.result ≡ length m.orders = simp length-map (omega (arith, c.len.ensures, b.rows.run.ok.0)) in
+    let p = err_from_is_err_and c.from_residual.result c.from_residual.ensures.1 in
+    let went = enter_refused m c.args.body why (told.answer ∙ ap (number_answer m.places m.last) count) in
+    let places : ◌≡◌ {A = Book} _ _ = ap (λ n. record { places = n; last = c.number.new.self.last; orders = m.orders }) told.places in
+    let last : ◌≡◌ {A = Book} _ m = ap (λ n. record { places = m.places; last = n; orders = m.orders }) (told.last ∙ number_refused m.places m.last c.len.result why told.answer) in
+    record { answer = rw (p.1, p.2) went.answer; after = places ∙ last ∙ went.after }
 
-pub returns-then-self-eq-LAST_NUMBER : goal.returns-then-self-eq-LAST_NUMBER
-returns-then-self-eq-LAST_NUMBER c =
+pub push-requires : goal.push-requires
+push-requires c =
     let b = c.args.self.now in
-    let count : length (orders_of b.orders.items) ≡ length b.orders.items = simp length-map refl in
-    let went = enter_spent (table_book b.places b.last b.orders.items) c.args.body (λ e. c.if-len-self.false (omega (arith, c.len.ensures, b.orders.ok.0, count, e))) c.if-self-eq-LAST_NUMBER.true in
-    record { answer = went.answer; after = went.after }
+    let given = number_given b.intake.places b.intake.last c.len.result c.in_ok-number.number c.in_ok-number.ensures.answer in
+    record { room = omega (arith, given.0, c.len.ensures, b.fits, b.room); few = omega (arith, b.fits, b.intake.few) }
 
-pub push_row-requires : goal.push_row-requires
-push_row-requires c =
+pub invariant_of-self-2 : goal.invariant_of-self-2
+invariant_of-self-2 c =
     let b = c.args.self.now in
-    let even : length b.aheads.items ≡ length b.orders.items = ap length b.counts ∙ simp length-map refl in
+    let n = c.in_ok-number.number in
+    let told = c.in_ok-number.ensures in
+    let run = c.push.new.self.run in
+    let given = number_given b.intake.places b.intake.last c.len.result n told.answer in
+    let last = told.last ∙ number_kept b.intake.places b.intake.last c.len.result n told.answer in
+    let longer : length run.items ≡ length b.rows.run.items + 1 = pushed_length b.rows.run.items run.items (under n c.args.body) c.push.ensures.orders in
     record {
-      order_room = omega (arith, c.if-len-self.false, c.len.ensures, b.fits, b.order_room);
-      ahead_room = omega (arith, c.if-len-self.false, c.len.ensures, b.fits, b.ahead_room, even, b.aheads.ok.0, b.orders.ok.0);
-      few = omega (arith, b.fits, b.few);
-      counts = b.counts;
-    }
-
-pub invariant_of-self : goal.invariant_of-self
-invariant_of-self c =
-    let b = c.args.self.now in
-    let os = orders_of b.orders.items in
-    let o = under (b.last + 1) c.args.body in
-    let orders = c.push_row.new.orders in
-    let kept = c.push_row.ensures in
-    let longer : length orders.items ≡ length b.orders.items + 1 = pushed_length b.orders.items orders.items o kept.orders in
-    let given : b.last + 1 ≤ 60000 = omega (arith, b.given, c.if-self-eq-LAST_NUMBER.false) in
-    let fits : orders.len ≤ b.places = omega (arith, longer, orders.ok.0, b.orders.ok.0, b.fits, c.if-len-self.false, c.len.ensures) in
-    let rises = ap (λ l. rising 0 l (b.last + 1)) kept.orders ∙ rising_push 0 os b.last o b.rises (omega arith) in
-    let order_room = subst (λ cap. b.places ≤ cap) (sym kept.order_capacity) b.order_room in
-    let ahead_room = subst (λ cap. b.places ≤ cap) (sym kept.ahead_capacity) b.ahead_room in
-    record {
-      few = b.few;
-      given = given;
-      fits = fits;
-      order_room = order_room;
-      ahead_room = ahead_room;
-      counts = kept.counts;
-      rises = rises;
+      fits = omega (arith, longer, run.ok.0, b.rows.run.ok.0, b.fits, given.0, c.len.ensures, told.places);
+      room = subst (λ cap. c.number.new.self.places ≤ cap) (sym c.push.ensures.capacity) (omega (arith, b.room, told.places));
+      rises = ap (λ l. rising 0 l c.number.new.self.last) c.push.ensures.orders ∙ ap (rising 0 _) last ∙ rising_push 0 (orders_of b.rows.run.items) b.intake.last (under n c.args.body) b.rises (omega (arith, given.2));
     }
 
 pub returns : goal.returns
 returns c =
     let b = c.args.self.now in
-    let m = table_book b.places b.last b.orders.items in
-    let count : length (orders_of b.orders.items) ≡ length b.orders.items = simp length-map refl in
-    let went = enter_taken m c.args.body (λ e. c.if-len-self.false (omega (arith, c.len.ensures, b.orders.ok.0, count, e))) c.if-self-eq-LAST_NUMBER.false in
-    let now : ◌≡◌ {A = Book} _ (entered m c.args.body) = ap (λ l. record { places = b.places; last = b.last + 1; orders = l }) c.push_row.ensures.orders in
+    let m = table_book b.intake.places b.intake.last b.rows.run.items in
+    let n = c.in_ok-number.number in
+    let told = c.in_ok-number.ensures in
+    let count : c.len.result ≡ length m.orders = simp length-map (omega (arith, c.len.ensures, b.rows.run.ok.0)) in
+    let given = number_given m.places m.last c.len.result n told.answer in
+    let went = enter_taken m c.args.body n (told.answer ∙ ap (number_answer m.places m.last) count) in
+    let last = told.last ∙ number_kept m.places m.last c.len.result n told.answer ∙ given.2 in
+    let orders = c.push.ensures.orders ∙ ap (λ k. m.orders ++ under k c.args.body ∷ []) given.2 in
+    let now : ◌≡◌ {A = Book} _ (entered m c.args.body) =
+    ap (λ k. record { places = k; last = c.number.new.self.last; orders = orders_of c.push.new.self.run.items }) told.places ∙ ap (λ k. record { places = m.places; last = k; orders = orders_of c.push.new.self.run.items }) last ∙ ap (λ l. record { places = m.places; last = m.last + 1; orders = l }) orders in
     record { answer = went.answer; after = now ∙ went.after }

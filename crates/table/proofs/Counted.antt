@@ -1,4 +1,4 @@
--- What the counts of a table say of its ranks, and how an entry and a leaving move them. Assumes nothing.
+-- What the counts of a table say of its ranks. Assumes nothing.
 use Rattle.std.proofs.Common.{◌≡◌, ℕ, zero, suc, ◌+◌, true, false, cond, not, ◌&&◌, eqb, ◌⊎◌, List, [], ◌∷◌, map, Some, None, Option, sym, refl, ap, ◌∙◌, subst, inl, inr, ⊎_elim, arith}
 use Rattle.std.specs.List.{slice_get}
 use Rattle.std.proofs.lemmas.Bool.{cases_Bool, cond-true, cond-false, eqb-true, eq-eqb, and_parts, and_from, not-true}
@@ -14,7 +14,7 @@ use Rattle.book.proofs.Bests.{side_all, all_shuffle}
 use Rattle.book.proofs.Listing.{side_apart, all_parts}
 use Rattle.book.proofs.Turns.{number_of, irreflexive, transitive, level}
 use Rattle.table.specs.Aheads.{ahead, counted, aheads_of, first_at}
-use Rattle.table.proofs.Loops.{counted_nil, counted_cons, first_nil, first_cons}
+use Rattle.table.proofs.Chains.{counted_nil, counted_cons, first_nil, first_cons}
 
 -- the order is one of the list
 abbrev Has : Order → List Order → Type 0

@@ -1,0 +1,66 @@
+// What the rows of a table count: the orders of a side that go before another, and quantities.
+ghost use Rattle.std.specs.Prelude.{◌≡◌, ℕ, ◌≤◌, ◌&&◌, ◌==◌, length, map};
+ghost use Rattle.book.specs.Meaning.{order_of, seen, is_side, part_of, quantity_at};
+ghost use Rattle.table.specs.Aheads.{ahead, counted, shifted, first_at};
+ghost use Rattle.table.specs.Tables.{orders_of, aheads_in};
+
+use crate::row::Row;
+use book::{Live, Side, outranks, trades_at};
+
+/// Whether an order is of another's side and goes before it.
+fn goes_ahead(order: &Live, other: &Live) -> bool
+    ensures { result ≡ ahead (order_of order.now) (order_of other.now) }
+{
+    order.body.side == other.body.side && outranks(other.body.side, order, other)
+}
+
+/// How many of the rows' orders go before `live`.
+pub(crate) fn count_ahead(rows: &[Row], live: &Live) -> usize
+    ensures { result ≡ counted (orders_of rows.now) (order_of live.now) }
+{
+    rows.iter()
+        .filter(|row| goes_ahead(&row.live, live))
+        .count()
+}
+
+/// Moves the counts of the orders that `live` goes before.
+pub(crate) fn shift_behind<F: Fn(usize) -> usize>(rows: &mut [Row], live: &Live, moved: F)
+    requires { F.IsAlwaysCallable moved }
+    ensures { (f : ℕ → ℕ) → ((x y : ℕ) → F.post moved x y → y ≡ f x) → rows.new ≡ map (shifted f (order_of live.now)) rows.old }
+{
+    for row in rows.iter_mut() {
+        if goes_ahead(live, &row.live) {
+            row.ahead = moved(row.ahead);
+        }
+    }
+}
+
+/// The first order of a side with so many ahead.
+pub(crate) fn order_behind(rows: &[Row], side: Side, ahead: usize) -> Option<Live>
+    ensures { seen result ≡ first_at side ahead (orders_of rows.now) (aheads_in rows.now) }
+{
+    let row = rows
+        .iter()
+        .find(|row| row.live.body.side == side && row.ahead == ahead)?;
+    Some(row.live)
+}
+
+/// What an order adds to the quantity of a side at `m` ticks.
+fn part_at(live: &Live, side: Side, m: u32) -> u32
+    ensures { result ≡ part_of side m (order_of live.now) }
+{
+    let body = live.body;
+    if body.side == side && trades_at(side, m, body.limit) {
+        body.quantity
+    } else {
+        0
+    }
+}
+
+/// The quantity of a side's orders that trade at `m` ticks.
+pub(crate) fn quantity_of(rows: &[Row], side: Side, m: u32) -> u32
+    requires { length rows.now ≤ 256 }
+    ensures { result ≡ quantity_at side m (orders_of rows.now) }
+{
+    rows.iter().map(|row| part_at(&row.live, side, m)).sum()
+}
