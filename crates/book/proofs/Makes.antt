@@ -1,6 +1,6 @@
 -- What a make of book shows of each way that an entry or a cut goes. Assumes nothing.
 use Rattle.std.specs.Result.{result_unwrap_or}
-use Rattle.std.proofs.Common.{◌≡◌, ℕ, ◌+◌, ◌<◌, ◌≤◌, Bool, true, false, cond, eqb, ltb, length, refl, arith, Some, None, Ok, Err, Result, sym, ap, ◌∙◌}
+use Rattle.std.proofs.Common.{◌≡◌, ℕ, ◌+◌, ◌<◌, ◌≤◌, Bool, true, false, cond, eqb, ltb, List, length, refl, arith, Some, None, Ok, Err, Result, sym, ap, ◌∙◌}
 use Rattle.std.proofs.lemmas.Bool.{both_ways, eq-eqb, ne_eqb, lt-ltb, le-ltb, or_left, or_right, or_from}
 use Rattle.book.specs.declared.orders.Body.{Body}
 use Rattle.book.specs.declared.refusals.BookRefusal.{BookRefusal}
@@ -14,6 +14,10 @@ pub record Went {T : Type 0} (r r₀ : Result T BookRefusal) (m' m₀ : Book) : 
 
 went : {T : Type 0} (r r₀ : Result T BookRefusal) (new old : Book) → r ≡ r₀ → Went r r₀ (unless_refused r new old) (unless_refused r₀ new old)
 went r r₀ new old e = record { answer = e; after = ap (λ x. unless_refused x new old) e }
+
+-- a book by its parts
+pub book_is : {places places' last last' : ℕ} {orders orders' : List Order} → places ≡ places' → last ≡ last' → orders ≡ orders' → ◌≡◌ {A = Book} (record { places = places; last = last; orders = orders }) (record { places = places'; last = last'; orders = orders' })
+book_is p l o = cc
 
 -- What a number that was given out tells.
 module _ (places last live n : ℕ) where

@@ -1,5 +1,6 @@
 -- What an entry and a cut keep of the two runs of a ladder. Assumes nothing.
-use Rattle.std.proofs.Common.{◌≡◌, ℕ, ◌+◌, ◌<◌, ◌≤◌, Bool, true, false, cond, ◌⊎◌, List, [], ◌∷◌, ◌++◌, map, length, is_ok, Some, None, Ok, Err, Result, sym, refl, ap, ◌∙◌, subst, inl, inr, ⊎_elim, append_assoc, arith, length-append}
+use Rattle.std.proofs.Common.{◌≡◌, ℕ, ◌+◌, ◌<◌, ◌≤◌, Bool, true, false, cond, ◌⊎◌, List, [], ◌∷◌, ◌++◌, map, length, is_ok, Some, None, Ok, Err, Option, Result, sym, refl, ap, ◌∙◌, subst, inl, inr, ⊎_elim, append_assoc, arith, length-append}
+use Rattle.std.specs.Option.{unwrap_or}
 use Rattle.std.proofs.lemmas.Bool.{cases_Bool, cases_eq, cond-true, cond-false}
 use Rattle.ranking.specs.Runs.{placed, in_rank, sorted}
 use Rattle.ranking.proofs.Placing.{placed_none, placed_here, placed_later, rank_placed}
@@ -14,7 +15,7 @@ use Rattle.book.specs.Runs.{all_of, run_cut, run_after}
 use Rattle.book.proofs.Listing.{rising_push, rising_cut, all_from, all_parts, all_cut, length_cut}
 use Rattle.book.proofs.Makes.{Went}
 use Rattle.book.proofs.Turns.{irreflexive, transitive, cut_here, cut_later, rank_cut}
-use Rattle.book.proofs.Standing.{judged, none_found, find_here, find_later, find_past, cut_past}
+use Rattle.book.proofs.Standing.{judged, unjudged, none_found, find_here, find_later, find_past, cut_past}
 use Rattle.ladder.specs.Ladders.{merged, ladder_book, joined, CutBoth}
 use Rattle.ladder.proofs.Merging.{merged_length, merged_find, merged_enter, merged_cut}
 
@@ -26,7 +27,7 @@ map_placed goes rank f alike x (y ∷ ys) =
     (λ n. ap (map f) (placed_later goes x y ys n) ∙ ap (λ l. f y ∷ l) (map_placed goes rank f alike x ys) ∙ sym (placed_later rank (f x) (f y) (map f ys) (sym (alike x y) ∙ n)))
     (cases_Bool (goes x y))
 
-all_placed : (s : Side) (o : Order) (os : List Order) → is_side s o.side ≡ true → all_of s os ≡ true → all_of s (placed (before s) o os) ≡ true
+pub all_placed : (s : Side) (o : Order) (os : List Order) → is_side s o.side ≡ true → all_of s os ≡ true → all_of s (placed (before s) o os) ≡ true
 all_placed s o [] p h = ap (all_of s) (placed_none (before s) o) ∙ all_from s o [] p h
 all_placed s o (x ∷ xs) p h =
     let both = all_parts s x xs h in
@@ -36,25 +37,31 @@ all_placed s o (x ∷ xs) p h =
 
 -- An order that enters.
 module _ (s : Side) (o : Order) (os : List Order) where
-  pub joined_rank : in_rank (before s) os ≡ true → in_rank (before s) (joined s o os) ≡ true
+  pub joined_own : is_side s o.side ≡ true → placed (before s) o os ≡ joined s o os
+  joined_own t = sym (cond-true (is_side s o.side) _ _ t)
+
+  pub joined_other : is_side s o.side ≡ false → os ≡ joined s o os
+  joined_other f = sym (cond-false (is_side s o.side) _ _ f)
+
+  joined_rank : in_rank (before s) os ≡ true → in_rank (before s) (joined s o os) ≡ true
   joined_rank r = by (is_side s o.side) where
     by : (b : Bool) → in_rank (before s) (cond b (placed (before s) o os) os) ≡ true
     by true = rank_placed (before s) (irreflexive s) (transitive s) o os r
     by false = r
 
-  pub joined_all : all_of s os ≡ true → all_of s (joined s o os) ≡ true
+  joined_all : all_of s os ≡ true → all_of s (joined s o os) ≡ true
   joined_all h =
       ⊎_elim (λ t. ap (all_of s) (cond-true (is_side s o.side) _ _ t) ∙ all_placed s o os t h)
       (λ f. ap (all_of s) (cond-false (is_side s o.side) _ _ f) ∙ h)
       (cases_Bool (is_side s o.side))
 
-pub joined_shuffle : (o : Order) (buys sells : List Order) → Shuffle (joined Buy o buys ++ joined Sell o sells) (o ∷ (buys ++ sells))
+joined_shuffle : (o : Order) (buys sells : List Order) → Shuffle (joined Buy o buys ++ joined Sell o sells) (o ∷ (buys ++ sells))
 joined_shuffle o buys sells = by o.side where
   by : (s : Side) → Shuffle (cond (is_side Buy s) (placed (before Buy) o buys) buys ++ cond (is_side Sell s) (placed (before Sell) o sells) sells) (o ∷ (buys ++ sells))
   by Buy = beside sells (shuffle_placed (before Buy) o buys)
   by Sell = then (behind buys (shuffle_placed (before Sell) o sells)) (to_front o buys sells)
 
-pub joined_length : (o : Order) (buys sells : List Order) → length (joined Buy o buys) + length (joined Sell o sells) ≡ length buys + length sells + 1
+joined_length : (o : Order) (buys sells : List Order) → length (joined Buy o buys) + length (joined Sell o sells) ≡ length buys + length sells + 1
 joined_length o buys sells = omega (arith, same_length (joined_shuffle o buys sells), length-append (joined Buy o buys) (joined Sell o sells), length-append buys sells)
 
 -- A cut in the first run that has the number.
@@ -84,7 +91,7 @@ module _ (buys sells : List Order) (n q : ℕ) where
       record { answer = found.1.1 ∙ ap (λ x. cut_judged x q) (found.1.0 ∙ sym (found_first buys sells n o found.1.0)); whole = ap (λ l. l ++ sells) after; first = inl after; second = inl refl }
 
   module _ (buys' sells' : List Order) (none : find_in buys n ≡ None) (stay : buys' ≡ buys) where
-    pub cut_sell : (r : Result (Unit {0}) BookRefusal) → Some r ≡ run_cut sells n q → sells' ≡ run_after (Some r) (cut_in sells n q) sells → CutBoth buys sells buys' sells' n q r
+    cut_sell : (r : Result (Unit {0}) BookRefusal) → Some r ≡ run_cut sells n q → sells' ≡ run_after (Some r) (cut_in sells n q) sells → CutBoth buys sells buys' sells' n q r
     cut_sell (Ok u) e after =
         let found = judged (find_in sells n) q (Ok u) e in
         record { answer = found.1.1 ∙ ap (λ x. cut_judged x q) (sym (find_past buys sells n none)); whole = ap (λ l. l ++ sells') stay ∙ ap (λ l. buys ++ l) after ∙ sym (cut_past buys sells n q none); first = inl stay; second = inr after }
@@ -92,11 +99,15 @@ module _ (buys sells : List Order) (n q : ℕ) where
         let found = judged (find_in sells n) q (Err why) e in
         record { answer = found.1.1 ∙ ap (λ x. cut_judged x q) (sym (find_past buys sells n none)); whole = ap (λ l. l ++ sells') stay ∙ ap (λ l. buys ++ l) after; first = inl stay; second = inl after }
 
-    pub cut_neither : find_in sells n ≡ None → sells' ≡ sells → CutBoth buys sells buys' sells' n q (Err UnknownOrder)
+    cut_neither : find_in sells n ≡ None → sells' ≡ sells → CutBoth buys sells buys' sells' n q (Err UnknownOrder)
     cut_neither unsold still = record { answer = sym (ap (λ x. cut_judged x q) (find_past buys sells n none ∙ unsold)); whole = ap (λ l. l ++ sells') stay ∙ ap (λ l. buys ++ l) still; first = inl stay; second = inl still }
 
+    pub cut_second : (o : Option (Result (Unit {0}) BookRefusal)) → o ≡ run_cut sells n q → sells' ≡ run_after o (cut_in sells n q) sells → CutBoth buys sells buys' sells' n q (unwrap_or o (Err UnknownOrder))
+    cut_second None e after = cut_neither (unjudged (find_in sells n) q e) after
+    cut_second (Some r) e after = cut_sell r e after
+
 -- what holds of a run and of its cut
-pub either_run : (P : List Order → Type 0) (xs xs' : List Order) (n q : ℕ) → (xs' ≡ xs) ⊎ (xs' ≡ cut_in xs n q) → P xs → P (cut_in xs n q) → P xs'
+either_run : (P : List Order → Type 0) (xs xs' : List Order) (n q : ℕ) → (xs' ≡ xs) ⊎ (xs' ≡ cut_in xs n q) → P xs → P (cut_in xs n q) → P xs'
 either_run P xs xs' n q way p c = ⊎_elim (λ e. subst P (sym e) p) (λ e. subst P (sym e) c) way
 
 -- What every ladder keeps of its two runs.
@@ -122,10 +133,10 @@ module _ (places last : ℕ) (buys sells : List Order) (kept : Kept places last 
 
   -- an order of the next number
   module _ (o : Order) (next : o.number ≡ last + 1) where
-    pub entered_orders : merged (joined Buy o buys) (joined Sell o sells) ≡ merged buys sells ++ o ∷ []
+    entered_orders : merged (joined Buy o buys) (joined Sell o sells) ≡ merged buys sells ++ o ∷ []
     entered_orders = merged_enter buys sells last kept.rises (joined Buy o buys) (joined Sell o sells) o (omega arith) (joined_shuffle o buys sells)
 
-    pub kept_enter : length buys + length sells < places → Kept places (last + 1) (joined Buy o buys) (joined Sell o sells)
+    kept_enter : length buys + length sells < places → Kept places (last + 1) (joined Buy o buys) (joined Sell o sells)
     kept_enter room =
         record {
           fits = omega (arith, joined_length o buys sells);
@@ -135,6 +146,14 @@ module _ (places last : ℕ) (buys sells : List Order) (kept : Kept places last 
           sells_sided = joined_all Sell o sells kept.sells_sided;
           rises = ap (λ l. rising 0 l (last + 1)) entered_orders ∙ subst (λ n. rising 0 (merged buys sells ++ o ∷ []) n ≡ true) next (rising_push 0 (merged buys sells) last o kept.rises (omega arith));
         }
+
+    -- and the runs that hold it then
+    module _ (buys' sells' : List Order) (bought : buys' ≡ joined Buy o buys) (sold : sells' ≡ joined Sell o sells) where
+      pub now_entered : merged buys' sells' ≡ merged buys sells ++ o ∷ []
+      now_entered = ap (λ l. merged l sells') bought ∙ ap (λ l. merged (joined Buy o buys) l) sold ∙ entered_orders
+
+      pub kept_entered : length buys + length sells < places → Kept places (last + 1) buys' sells'
+      kept_entered room = subst (λ l. Kept places (last + 1) l sells') (sym bought) (subst (λ l. Kept places (last + 1) (joined Buy o buys) l) (sym sold) (kept_enter room))
 
   module _ (buys' sells' : List Order) (n q : ℕ) (r : Result (Unit {0}) BookRefusal) (both : CutBoth buys sells buys' sells' n q r) where
     cut_orders : (r₀ : Result (Unit {0}) BookRefusal) → buys' ++ sells' ≡ cond (is_ok r₀) (cut_in (buys ++ sells) n q) (buys ++ sells) → merged buys' sells' ≡ cond (is_ok r₀) (cut_in (merged buys sells) n q) (merged buys sells)

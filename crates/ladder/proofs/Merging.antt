@@ -14,7 +14,7 @@ use Rattle.book.proofs.Listing.{rising_ends, rising_parts, rising_apart, rising_
 use Rattle.ladder.specs.Ladders.{merged}
 
 -- The order with the highest number is placed last.
-pub place_last : (low : ℕ) (os : List Order) (high : ℕ) (o : Order) → rising low os high ≡ true → high < o.number → placed earlier o os ≡ os ++ o ∷ []
+place_last : (low : ℕ) (os : List Order) (high : ℕ) (o : Order) → rising low os high ≡ true → high < o.number → placed earlier o os ≡ os ++ o ∷ []
 place_last low [] high o h l = placed_none earlier o
 place_last low (x ∷ os) high o h l =
     let p = rising_parts low x os high h in

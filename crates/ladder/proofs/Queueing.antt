@@ -1,5 +1,5 @@
 -- What the loop over a run in rank sums, and what stands at a place. Assumes nothing.
-use Rattle.std.proofs.Common.{◌≡◌, ℕ, zero, suc, ◌+◌, ◌-◌, ◌*◌, ◌<◌, ◌≤◌, true, false, ◌&&◌, ◌⊎◌, List, ◌∷◌, map, length, get_or, drop, Some, None, sym, refl, ap, ◌∙◌, ⊎_elim, arith}
+use Rattle.std.proofs.Common.{◌≡◌, ℕ, zero, suc, ◌+◌, ◌-◌, ◌*◌, ◌<◌, ◌≤◌, true, false, ◌&&◌, ◌⊎◌, List, [], ◌∷◌, map, length, get_or, drop, Some, None, Ok, Err, Option, Result, subst, sym, refl, ap, ◌∙◌, ⊎_elim, arith}
 use lib.ListN.{length-map}
 use Rattle.std.proofs.lemmas.List.{drop_more, drop_all, get_or-map}
 use Rattle.std.proofs.lemmas.Option.{slice_get-get_or, slice_get_past}
@@ -9,7 +9,8 @@ use Rattle.ranking.proofs.Placing.{ranked_cons}
 use Rattle.book.specs.declared.orders.Side.{Side}
 use Rattle.book.specs.Meaning.{Order, is_side, meets, part_of, quantity_at}
 use Rattle.book.specs.Ranks.{before, at_place}
-use Rattle.book.specs.Runs.{all_of}
+use Rattle.book.specs.Runs.{all_of, run_after}
+use Rattle.book.specs.declared.refusals.BookRefusal.{BookRefusal}
 use Rattle.book.proofs.Bests.{worse_none}
 use Rattle.book.proofs.Listing.{all_cons, quantity_nil, quantity_cons}
 
@@ -59,3 +60,19 @@ place_none xs (suc k) h = sym (slice_get_past xs k (⊎_elim (λ e. absurd (omeg
 pub place_some : {X : Type 0} (xs : List X) (k : ℕ) (d : X) → 0 < k → k ≤ length xs → Some (get_or xs (k - 1) d) ≡ at_place xs k
 place_some xs zero d some within = absurd (omega arith)
 place_some xs (suc k) d some within = let e : suc k - 1 ≡ k = omega arith in ap (λ j. Some (get_or xs j d)) e ∙ sym (slice_get-get_or xs k d (omega arith))
+
+-- Of no order everything is so.
+
+pub none_ranked : (s : Side) → in_rank (before s) [] ≡ true
+unfolding in_rank
+none_ranked s = refl
+
+pub none_sided : (s : Side) → all_of s [] ≡ true
+unfolding all_of
+none_sided s = refl
+
+-- what holds of a run and of its cut holds after a cut, however it was answered
+pub after_run : (P : List Order → Type 0) (r : Option (Result (Unit {0}) BookRefusal)) (new old : List Order) {now : List Order} → now ≡ run_after r new old → P new → P old → P now
+after_run P None new old e p q = subst P (sym e) q
+after_run P (Some (Ok _)) new old e p q = subst P (sym e) p
+after_run P (Some (Err why)) new old e p q = subst P (sym e) q

@@ -3,23 +3,21 @@ use Rattle.std.specs.Prelude.{◌≡◌, ℕ, cond, ◌⊎◌, List, ◌++◌, m
 use Rattle.ranking.specs.Runs.{placed, sorted}
 use Rattle.book.specs.declared.orders.Side.{Side}
 use Rattle.book.specs.declared.refusals.BookRefusal.{BookRefusal}
-use Rattle.book.specs.declared.sides.BuyOrder.{BuyOrder}
-use Rattle.book.specs.declared.sides.SellOrder.{SellOrder}
+use Rattle.book.specs.declared.sides.Buys.{Buys}
+use Rattle.book.specs.declared.sides.Sells.{Sells}
+use Rattle.book.specs.declared.sides.SideOrder.{SideOrder}
 use Rattle.book.specs.Meaning.{Order, Book, order_of, is_side, find_in, cut_in, cut_judged}
 use Rattle.book.specs.Ranks.{before, earlier}
 
-abbrev pub buys_of : List BuyOrder → List Order
-buys_of buys = map (λ x. order_of x.0) buys
-
-abbrev pub sells_of : List SellOrder → List Order
-sells_of sells = map (λ x. order_of x.0) sells
+abbrev pub orders_of : {S : Type 0} → List (SideOrder S) → List Order
+orders_of run = map (λ x. order_of x.live) run
 
 -- the orders of both runs, by number
 abbrev pub merged : List Order → List Order → List Order
 merged buys sells = sorted earlier (buys ++ sells)
 
-abbrev pub ladder_book : ℕ → ℕ → List BuyOrder → List SellOrder → Book
-ladder_book places last buys sells = record { places = places; last = last; orders = merged (buys_of buys) (sells_of sells) }
+abbrev pub ladder_book : ℕ → ℕ → List (SideOrder Buys) → List (SideOrder Sells) → Book
+ladder_book places last buys sells = record { places = places; last = last; orders = merged (orders_of buys) (orders_of sells) }
 
 -- an order among those of a side, in rank, if it is of that side
 abbrev pub joined : Side → Order → List Order → List Order

@@ -5,21 +5,20 @@ ghost use Rattle.ladder.specs.Ladders.{ladder_book};
 ghost use Rattle.ladder.specs.Soundness.{ladder_sound};
 
 use crate::ladders::Ladder;
-use crate::queues::{cut_either, enqueue_live, order_at, quantity_in};
-use book::{Body, BookRefusal, LAST_NUMBER, Live, MAX_PLACES, OrderBook, Side, find_in};
+use crate::queues::Queue;
+use book::{Body, BookRefusal, Intake, Live, OrderBook, Side, find_in};
 use std::alloc::{AllocError, Global};
 
 impl Ladder {
     /// A fresh ladder of two runs. It offers as many places as the shorter has, and at most 256.
     pub fn new(heap: Global, buy_places: usize, sell_places: usize) -> Result<Ladder, AllocError>
-        ensures { IfOk result (λ b. ladder_book b.places b.last b.buys.items b.sells.items ≡ fresh (min (min buy_places sell_places) 256)) }
+        ensures { IfOk result (λ b. ladder_book b.intake.places b.intake.last b.buys.run.items b.sells.run.items ≡ fresh (min (min buy_places sell_places) 256)) }
     {
-        let places = buy_places.min(sell_places).min(MAX_PLACES);
-        let buys = Vec::with_capacity(heap, places)?;
-        let sells = Vec::with_capacity(heap, places)?;
+        let intake = Intake::new(buy_places.min(sell_places));
+        let buys = Queue::new(heap, intake.places)?;
+        let sells = Queue::new(heap, intake.places)?;
         Ok(Ladder {
-            places,
-            last: 0,
+            intake,
             buys,
             sells,
         })
@@ -27,53 +26,53 @@ impl Ladder {
 }
 
 impl OrderBook for Ladder {
-    ghost meaning = { λ b. ladder_book b.places b.last b.buys.items b.sells.items };
+    ghost meaning = { λ b. ladder_book b.intake.places b.intake.last b.buys.run.items b.sells.run.items };
 
-    ghost sound = { λ b. ladder_sound b.places b.last (vec_len b.buys) (vec_len b.sells) b.buys.items b.sells.items b.buys.ok.0 b.sells.ok.0 b.few b.given b.fits b.rises };
+    ghost sound = { λ b. ladder_sound b.intake.places b.intake.last (vec_len b.buys.run) (vec_len b.sells.run) b.buys.run.items b.sells.run.items b.buys.run.ok.0 b.sells.run.ok.0 b.intake.few b.intake.given b.fits b.rises };
 
     fn enter(&mut self, body: Body) -> Result<u32, BookRefusal> {
-        if self.buys.len() + self.sells.len() == self.places {
-            return Err(BookRefusal::Full);
+        let count = self.buys.run.len() + self.sells.run.len();
+        let number = self.intake.number(count)?;
+        let live = Live { number, body };
+        match body.side {
+            Side::Buy => self.buys.push(live),
+            Side::Sell => self.sells.push(live),
         }
-        if self.last == LAST_NUMBER {
-            return Err(BookRefusal::NumbersSpent);
-        }
-        let number = self.last + 1;
-        enqueue_live(&mut self.buys, &mut self.sells, Live { number, body });
-        self.last = number;
         Ok(number)
     }
 
     fn cut(&mut self, number: u32, quantity: u32) -> Result<(), BookRefusal> {
-        cut_either(&mut self.buys, &mut self.sells, number, quantity)
+        if let Some(answer) = self.buys.cut(number, quantity) {
+            return answer;
+        }
+        self.sells
+            .cut(number, quantity)
+            .unwrap_or(Err(BookRefusal::UnknownOrder))
     }
 
     fn find(&self, number: u32) -> Option<Live> {
-        match find_in(&self.buys, number) {
+        match find_in(&self.buys.run, number) {
             Some(live) => Some(live),
-            None => find_in(&self.sells, number),
+            None => find_in(&self.sells.run, number),
         }
     }
 
     fn rank(&self, side: Side, k: usize) -> Option<Live> {
         match side {
-            Side::Buy => order_at(&self.buys, k),
-            Side::Sell => order_at(&self.sells, k),
+            Side::Buy => self.buys.order_at(k),
+            Side::Sell => self.sells.order_at(k),
         }
     }
 
     fn at_limit(&self, m: u32) -> (u32, u32) {
-        (
-            quantity_in(&self.buys, Side::Buy, m),
-            quantity_in(&self.sells, Side::Sell, m),
-        )
+        (self.buys.quantity(m), self.sells.quantity(m))
     }
 
     fn places(&self) -> usize {
-        self.places
+        self.intake.places
     }
 
     fn last(&self) -> u32 {
-        self.last
+        self.intake.last
     }
 }

@@ -1,9 +1,9 @@
-use Rattle.std.proofs.Common.{◌≡◌, ◌+◌, ◌≤◌, [], ◌∷◌, ◌++◌, length, sym, ap, ◌∙◌, subst, arith}
+use Rattle.std.proofs.Common.{◌≡◌, ◌+◌, ◌≤◌, [], ◌∷◌, ◌++◌, length, sym, refl, ap, ◌∙◌, subst, arith}
 use lib.ListN.{length-map}
 use Rattle.std.proofs.lemmas.Result.{err_from_is_err_and}
-use Rattle.book.specs.Meaning.{Book, under, number_answer, entered, rising}
+use Rattle.book.specs.Meaning.{under, number_answer, rising}
 use Rattle.book.proofs.Listing.{rising_push}
-use Rattle.book.proofs.Makes.{number_given, number_kept, number_refused, enter_refused, enter_taken}
+use Rattle.book.proofs.Makes.{number_given, number_kept, number_refused, enter_refused, enter_taken, book_is}
 use Rattle.table.specs.Tables.{orders_of, table_book}
 use Rattle.table.proofs.Tabling.{pushed_length}
 use Rattle.table.proofs.table_books.TableOrderBook.enter.Goals as goal
@@ -17,9 +17,8 @@ returns-in_err-number c =
     let count : c.len.result ≡ length m.orders = simp length-map (omega (arith, c.len.ensures, b.rows.run.ok.0)) in
     let p = err_from_is_err_and c.from_residual.result c.from_residual.ensures.1 in
     let went = enter_refused m c.args.body why (told.answer ∙ ap (number_answer m.places m.last) count) in
-    let places : ◌≡◌ {A = Book} _ _ = ap (λ n. record { places = n; last = c.number.new.self.last; orders = m.orders }) told.places in
-    let last : ◌≡◌ {A = Book} _ m = ap (λ n. record { places = m.places; last = n; orders = m.orders }) (told.last ∙ number_refused m.places m.last c.len.result why told.answer) in
-    record { answer = rw (p.1, p.2) went.answer; after = places ∙ last ∙ went.after }
+    let now = book_is told.places (told.last ∙ number_refused m.places m.last c.len.result why told.answer) refl in
+    record { answer = rw (p.1, p.2) went.answer; after = now ∙ went.after }
 
 pub push-requires : goal.push-requires
 push-requires c =
@@ -53,6 +52,5 @@ returns c =
     let went = enter_taken m c.args.body n (told.answer ∙ ap (number_answer m.places m.last) count) in
     let last = told.last ∙ number_kept m.places m.last c.len.result n told.answer ∙ given.2 in
     let orders = c.push.ensures.orders ∙ ap (λ k. m.orders ++ under k c.args.body ∷ []) given.2 in
-    let now : ◌≡◌ {A = Book} _ (entered m c.args.body) =
-    ap (λ k. record { places = k; last = c.number.new.self.last; orders = orders_of c.push.new.self.run.items }) told.places ∙ ap (λ k. record { places = m.places; last = k; orders = orders_of c.push.new.self.run.items }) last ∙ ap (λ l. record { places = m.places; last = m.last + 1; orders = l }) orders in
+    let now = book_is told.places last orders in
     record { answer = went.answer; after = now ∙ went.after }
