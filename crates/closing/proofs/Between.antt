@@ -1,8 +1,12 @@
--- The nearest multiple of the tick lies between any two multiples that the mean lies between. Assumes nothing.
+-- A mean of prices rounds to a price again: the nearest multiple of the tick lies between any two multiples that the mean lies between. Assumes nothing.
 use Rattle.std.proofs.Common.{◌≡◌, ℕ, ◌+◌, ◌*◌, ◌/◌, ◌<◌, ◌≤◌, sym, ap, ⊎_elim, mul-le-mul_right, add-mul, mul-pos, le-div_iff_mul-le, div-mul-le_self, arith}
 use Rattle.std.proofs.lemmas.Bool.{cases_lt}
-use Rattle.session.specs.Rounding.{Nearest}
+use Rattle.session.specs.Rounding.{Nearest, nearest}
+use Rattle.session.proofs.Nearness.{nearness}
 use Rattle.session.specs.Judgements.{OnTick}
+
+pub near : (tick sum weight : ℕ) → 1 ≤ tick → 0 < weight → Nearest tick sum weight (nearest tick sum weight)
+near tick sum weight some weighed = nearness tick sum weight (λ none. omega (arith, none, mul-pos {m = tick} {n = weight} some weighed))
 
 module _ (tick sum weight price : ℕ) (some : 1 ≤ tick) (weighed : 0 < weight) (near : Nearest tick sum weight price) where
   -- one multiple more is a tick more, weighed

@@ -1,5 +1,6 @@
 -- What a closing price refuses: the lists, then each item in the order named. Assumes nothing.
 use Rattle.std.specs.Prelude.{ℕ, Bool, cond, ◌&&◌, List, [], ◌∷◌, length, Ok, Err, nat_le}
+use Rattle.std.specs.Option.{option_map}
 use Rattle.ranking.specs.declared.surveys.SurveyPrice.{SurveyPrice}
 use Rattle.ranking.specs.Runs.{in_rank}
 use Rattle.ranking.specs.Surveys.{survey_before}
@@ -40,7 +41,7 @@ abbrev pub judged_inputs : ℕ → ClosingInputs → Judgement
 judged_inputs tick inputs =
     onward (judged_lists inputs.trades.now inputs.survey.now) (
     onward (judged_given tick inputs.today) (
-    onward (judged_given tick inputs.last) (
+    onward (judged_given tick (option_map (λ last. last.price) inputs.last)) (
     onward (judged_each (judged_trade tick) inputs.trades.now) (
     onward (judged_given tick inputs.best_buy) (
     onward (judged_given tick inputs.best_sell) (

@@ -5,6 +5,7 @@ mod closings;
 mod contributions;
 mod criteria;
 mod inputs;
+mod judged;
 mod judging;
 mod refusals;
 
