@@ -35,8 +35,8 @@ abbrev pub top : ℕ → ℕ
 top tick = 10000000 / tick
 
 -- a price that passed is at least one tick, and at most the highest multiple
-pub within : (tick price : ℕ) → 1 ≤ tick → OnTick tick price → (1 * tick ≤ price) × (price ≤ top tick * tick)
-within tick price some on =
+pub in_bounds : (tick price : ℕ) → 1 ≤ tick → OnTick tick price → (1 * tick ≤ price) × (price ≤ top tick * tick)
+in_bounds tick price some on =
     let low : 1 ≤ on.ticks = ⊎_elim (λ none. absurd (omega (arith, on.legal.0, on.exact, mul-le-mul_right {m = on.ticks} {n = 0} tick (omega arith)))) (λ h. h) (cases_lt on.ticks 1) in
     let high : on.ticks ≤ top tick = (le-div_iff_mul-le {k = tick} {x = on.ticks} {y = 10000000} some).1 (omega (arith, on.exact, on.legal.1)) in
     (omega (arith, on.exact, mul-le-mul_right {m = 1} {n = on.ticks} tick low), omega (arith, on.exact, mul-le-mul_right {m = on.ticks} {n = top tick} tick high))

@@ -1,12 +1,14 @@
 -- The price of the first criterion that serves, by what that criterion says of it. Assumes nothing.
-use Rattle.std.proofs.Common.{◌≡◌, ℕ, suc, ◌+◌, ◌-◌, ◌*◌, ◌/◌, ◌%◌, ◌<◌, ◌≤◌, Bool, true, false, cond, ◌&&◌, eqb, leb, length, IfOk, Some, None, Ok, Option, Result, sym, refl, ap, ◌∙◌, subst, ⊎_elim, arith}
-use Rattle.std.specs.Option.{ok_or, option_map}
+use Rattle.std.proofs.Common.{◌≡◌, ℕ, suc, ◌+◌, ◌-◌, ◌*◌, ◌/◌, ◌%◌, ◌<◌, ◌≤◌, Bool, true, false, cond, eqb, leb, length, IfOk, Some, None, Ok, Option, Result, sym, refl, ap, ◌∙◌, subst, ⊎_elim, arith}
+use Rattle.std.specs.Option.{ok_or, option_map, option_or}
 use Rattle.std.proofs.lemmas.Option.{cond_some}
 use Rattle.std.proofs.lemmas.List.Elements.{All-weaker, All-get_or, All-map}
 use Rattle.std.proofs.lemmas.List.{length-map}
 use Rattle.std.proofs.lemmas.Result.{IfOk-weaker}
 use Rattle.std.proofs.lemmas.Bool.{and_parts, leb-true, leb-false, eqb-true, eqb-false, cases_Bool}
 use Rattle.session.specs.Judgements.{OnTick}
+use Rattle.session.specs.Ranges.{within}
+use Rattle.session.proofs.Judging.{within_so}
 use Rattle.session.specs.Rounding.{Nearest, nearest}
 use Rattle.ranking.specs.declared.surveys.SurveyPrice.{SurveyPrice}
 use Rattle.closing.specs.declared.inputs.LastPrice.{LastPrice}
@@ -14,11 +16,11 @@ use Rattle.closing.specs.declared.inputs.ClosingInputs.{ClosingInputs}
 use Rattle.closing.specs.declared.refusals.ClosingRefusal.{ClosingRefusal}
 use Rattle.closing.specs.declared.refusals.ClosingRefusal.TheVariants.{NoCriterion}
 use Rattle.closing.specs.Judging.{judged_inputs}
-use Rattle.closing.specs.Criteria.{worth_of, contracts_of, of_today, of_aged, of_last, of_trades, is_narrow, mean_of_best, of_best, price_at, median, of_survey, or_else, first_price}
+use Rattle.closing.specs.Criteria.{worth_of, contracts_of, of_today, of_aged, of_last, of_trades, is_narrow, mean_of_best, of_best, price_at, median, of_survey, first_price}
 use Rattle.closing.specs.Grounds.{Halves, lower_middle, upper_middle, ClosedBy, by_today, by_last, by_trades, by_best, by_survey}
 use Rattle.closing.proofs.Legal.{Legal, Sound, legal, given_at}
 use Rattle.closing.proofs.Totals.{legal_fit, worth_above, worth_below}
-use Rattle.closing.proofs.Between.{near, top, within, not_above, not_below, mean_on_tick}
+use Rattle.closing.proofs.Between.{near, top, in_bounds, not_above, not_below, mean_on_tick}
 use Rattle.closing.proofs.Halving.{ascends, halves_at, halves_between}
 
 -- a test that gives no price, or what else is there
@@ -40,9 +42,9 @@ record Aged (o : Option LastPrice) (price : ℕ) : Type 0 where
 aged : (o : Option LastPrice) (price : ℕ) → of_aged o ≡ Some price → Aged o price
 aged None price is = absurd cc
 aged (Some last) price is =
-    let told = cond_some (leb 1 last.age && leb last.age 5) last.price price is in
-    let both = and_parts (leb 1 last.age) (leb last.age 5) told.0 in
-    record { age = last.age; some = leb-true 1 last.age both.0; few = leb-true last.age 5 both.1; there = subst (λ p. Some last ≡ Some (record { price = p; age = last.age })) told.1 refl }
+    let told = cond_some (within 5 last.age) last.price price is in
+    let range = within_so 5 last.age told.0 in
+    record { age = last.age; some = range.0; few = range.1; there = subst (λ p. Some last ≡ Some (record { price = p; age = last.age })) told.1 refl }
 
 -- best buy and best sell that give a price
 record Narrow (tick : ℕ) (b s : Option ℕ) (price : ℕ) : Type 0 where
@@ -69,8 +71,8 @@ module _ (tick lower upper price : ℕ) (some : 1 ≤ tick) (few : tick ≤ 1000
 
   pub two_on_tick : OnTick tick price
   two_on_tick =
-      let a = within tick lower some low in
-      let b = within tick upper some high in
+      let a = in_bounds tick lower some low in
+      let b = in_bounds tick upper some high in
       mean_on_tick tick (lower + upper) 2 price some (omega arith) near_two (omega (arith, a.0, b.0)) (omega (arith, a.1, b.1))
 
   pub two_between : lower ≤ upper → (lower ≤ price) × (price ≤ upper)
@@ -102,8 +104,8 @@ module _ (tick : ℕ) (inputs : ClosingInputs) (some : 1 ≤ tick) (few : tick �
           let told = cond_some (leb 3 (length trades)) (nearest tick (worth_of trades) (contracts_of trades)) price is in
           let three = leb-true 3 (length trades) told.0 in
           let close = subst (λ p. Nearest tick (worth_of trades) (contracts_of trades) p) told.1 (near tick (worth_of trades) (contracts_of trades) some (omega (arith, three, fit.some))) in
-          let low = worth_above (1 * tick) trades (All-weaker (Sound tick) (λ trade. 1 * tick ≤ trade.price) (λ trade sound. (within tick trade.price some sound.on_tick).0) trades legal.trades) in
-          let high = worth_below (top tick * tick) trades (All-weaker (Sound tick) (λ trade. trade.price ≤ top tick * tick) (λ trade sound. (within tick trade.price some sound.on_tick).1) trades legal.trades) in
+          let low = worth_above (1 * tick) trades (All-weaker (Sound tick) (λ trade. 1 * tick ≤ trade.price) (λ trade sound. (in_bounds tick trade.price some sound.on_tick).0) trades legal.trades) in
+          let high = worth_below (top tick * tick) trades (All-weaker (Sound tick) (λ trade. trade.price ≤ top tick * tick) (λ trade sound. (in_bounds tick trade.price some sound.on_tick).1) trades legal.trades) in
           (by_trades not_today not_last three (record { low = λ least all. worth_above least trades all; high = λ most all. worth_below most trades all; near = close }), mean_on_tick tick (worth_of trades) (contracts_of trades) price some (omega (arith, three, fit.some)) close low high)
 
       module _ (not_trades : of_trades tick inputs ≡ None) where
@@ -160,7 +162,7 @@ module _ (tick : ℕ) (inputs : ClosingInputs) (some : 1 ≤ tick) (few : tick �
             (cases_Bool (eqb (length survey % 2) 1))
 
   -- the first of the five that is a price
-  found_among : (a b c d e : Option ℕ) → of_today inputs ≡ a → of_last inputs ≡ b → of_trades tick inputs ≡ c → of_best tick inputs ≡ d → of_survey tick inputs ≡ e → or_else a (or_else b (or_else c (or_else d e))) ≡ Some price → Found
+  found_among : (a b c d e : Option ℕ) → of_today inputs ≡ a → of_last inputs ≡ b → of_trades tick inputs ≡ c → of_best tick inputs ≡ d → of_survey tick inputs ≡ e → option_or a (option_or b (option_or c (option_or d e))) ≡ Some price → Found
   found_among (Some x) b c d e ia ib ic id ie is = found_today (ia ∙ is)
   found_among None (Some x) c d e ia ib ic id ie is = found_last ia (ib ∙ is)
   found_among None None (Some x) d e ia ib ic id ie is = found_trades ia ib (ic ∙ is)

@@ -4,7 +4,7 @@ use Rattle.std.specs.Option.{option_map}
 use Rattle.std.proofs.lemmas.Bool.{and_parts, leb-true}
 use Rattle.std.proofs.lemmas.List.Elements.{All-nil, All-cons, All-get_or}
 use Rattle.session.specs.Judgements.{OnTick}
-use Rattle.session.proofs.Judging.{both_passed, test_passed, price_on_tick, given_found}
+use Rattle.session.proofs.Judging.{within_so, both_passed, test_passed, price_on_tick, given_found}
 use Rattle.ranking.specs.Runs.{in_rank}
 use Rattle.ranking.specs.Surveys.{survey_before}
 use Rattle.ranking.specs.declared.surveys.SurveyPrice.{SurveyPrice}
@@ -23,8 +23,8 @@ pub record Sound (tick : ℕ) (trade : PricedTrade) : Type 0 where
 sound : (tick : ℕ) (trade : PricedTrade) → judged_trade tick trade ≡ Ok tt → Sound tick trade
 sound tick trade is =
     let parts = both_passed (judged_quantity trade.quantity) (judged_price tick trade.price) tt is in
-    let range = and_parts (leb 1 trade.quantity) (leb trade.quantity 6858) (test_passed (is_quantity trade.quantity) tt tt _ parts.0).0 in
-    record { some = leb-true 1 trade.quantity range.0; few = leb-true trade.quantity 6858 range.1; on_tick = price_on_tick of_price tick trade.price parts.1 }
+    let range = within_so 6858 trade.quantity (test_passed (is_quantity trade.quantity) tt tt _ parts.0).0 in
+    record { some = range.0; few = range.1; on_tick = price_on_tick of_price tick trade.price parts.1 }
 
 -- of each item of a list
 each : {X : Type 0} (judged : X → Judgement) (P : X → Type 0) → ((x : X) → judged x ≡ Ok tt → P x) → (xs : List X) → judged_each judged xs ≡ Ok tt → All P xs

@@ -1,6 +1,7 @@
 -- The criteria for a closing price: each gives a price if it serves, and the first that serves gives the closing price. Assumes nothing.
 use Rattle.std.specs.Prelude.{ℕ, ◌+◌, ◌-◌, ◌*◌, ◌/◌, ◌%◌, Bool, cond, ◌&&◌, List, map, sum_by, length, Some, None, Option, Result, ◌==◌, nat_le, slice_index}
-use Rattle.std.specs.Option.{ok_or}
+use Rattle.std.specs.Option.{ok_or, option_or}
+use Rattle.session.specs.Ranges.{within}
 use Rattle.session.specs.Rounding.{nearest}
 use Rattle.ranking.specs.declared.surveys.SurveyPrice.{SurveyPrice}
 use Rattle.closing.specs.declared.inputs.PricedTrade.{PricedTrade}
@@ -18,7 +19,7 @@ of_today inputs = cond inputs.out_of_market None inputs.today
 -- 2. the last closing auction's price, if it is 1 to 5 business days old, unless marked
 abbrev pub of_aged : Option LastPrice → Option ℕ
 of_aged None = None
-of_aged (Some last) = cond (nat_le 1 last.age && nat_le last.age 5) (Some last.price) None
+of_aged (Some last) = cond (within 5 last.age) (Some last.price) None
 
 abbrev pub of_last : ClosingInputs → Option ℕ
 of_last inputs = cond inputs.out_of_market None (of_aged inputs.last)
@@ -59,18 +60,13 @@ median tick survey count = cond (count % 2 == 1) (price_at survey (count / 2)) (
 abbrev pub of_survey : ℕ → ClosingInputs → Option ℕ
 of_survey tick inputs = cond (nat_le 5 (length inputs.survey.now)) (Some (median tick inputs.survey.now (length inputs.survey.now))) None
 
--- a criterion that does not serve leaves it to the next
-abbrev pub or_else : Option ℕ → Option ℕ → Option ℕ
-or_else None next = next
-or_else (Some price) next = Some price
-
--- the price of the first criterion that serves
+-- the price of the first criterion that serves: one that does not leaves it to the next
 abbrev pub first_price : ℕ → ClosingInputs → Option ℕ
 first_price tick inputs =
-    or_else (of_today inputs) (
-    or_else (of_last inputs) (
-    or_else (of_trades tick inputs) (
-    or_else (of_best tick inputs) (
+    option_or (of_today inputs) (
+    option_or (of_last inputs) (
+    option_or (of_trades tick inputs) (
+    option_or (of_best tick inputs) (
     of_survey tick inputs))))
 
 -- the closing price: everything is judged first, and refused at the end if no criterion serves

@@ -7,12 +7,13 @@ use Rattle.ranking.specs.Surveys.{survey_before}
 use Rattle.closing.specs.declared.inputs.PricedTrade.{PricedTrade}
 use Rattle.closing.specs.declared.inputs.ClosingInputs.{ClosingInputs}
 use Rattle.closing.specs.declared.refusals.ClosingRefusal.TheVariants.{QuantityRange, ClosingLists}
+use Rattle.session.specs.Ranges.{within}
 use Rattle.session.specs.Judgements.{onward}
 use Rattle.closing.specs.Refusals.{Judgement, judged_price, judged_given}
 
 -- a trade's contracts
 abbrev pub is_quantity : ℕ → Bool
-is_quantity quantity = nat_le 1 quantity && nat_le quantity 6858
+is_quantity quantity = within 6858 quantity
 
 abbrev pub judged_quantity : ℕ → Judgement
 judged_quantity quantity = cond (is_quantity quantity) (Ok tt) (Err QuantityRange)

@@ -11,6 +11,6 @@ mod refusals;
 
 pub use closings::closing_price;
 pub use contributions::{MAX_SURVEY, contribute};
-pub use inputs::{ClosingInputs, PricedTrade};
+pub use inputs::{ClosingInputs, LastPrice, PricedTrade};
 pub use judging::{MAX_QUANTITY, MAX_TRADES};
 pub use refusals::ClosingRefusal;

@@ -1,10 +1,10 @@
 -- What a judged price answers, by its range and the tick. Assumes nothing.
-use Rattle.std.proofs.Common.{◌≡◌, ℕ, ◌*◌, ◌/◌, ◌%◌, ◌≤◌, Bool, true, false, cond, IfSome, Some, None, Ok, Err, Option, Result, sym, refl, ap, ◌∙◌, subst, ⊎_elim, div-add-mod', arith}
+use Rattle.std.proofs.Common.{◌≡◌, ℕ, ◌*◌, ◌/◌, ◌%◌, ◌≤◌, Bool, true, false, leb, cond, IfSome, Some, None, Ok, Err, Option, Result, sym, refl, ap, ◌∙◌, subst, ⊎_elim, div-add-mod', arith}
 use native.Mathlib.Nat.{mul-mod_left}
-use Rattle.std.proofs.lemmas.Bool.{le-leb, lt-leb, eq-eqb, ne_eqb, cases_lt, cases_eq}
+use Rattle.std.proofs.lemmas.Bool.{and_parts, and_from, leb-true, le-leb, lt-leb, eq-eqb, ne_eqb, cases_lt, cases_eq}
 use Rattle.session.specs.declared.judgements.PriceRefusal.{PriceRefusal}
 use Rattle.session.specs.declared.judgements.PriceRefusal.TheVariants.{PriceRange, OffTick}
-use Rattle.session.specs.Ranges.{InPrice}
+use Rattle.session.specs.Ranges.{Within, within, InPrice}
 use Rattle.session.specs.Judgements.{price_judged, Judged, OnTick, passed, given_judged, onward, passed_as}
 
 range_judged : (tick price : ℕ) → (InPrice price → ⊥) → price_judged tick price ≡ Err PriceRange
@@ -48,6 +48,14 @@ module _ (tick price : ℕ) where
       ⊎_elim (λ low. out_of_range (λ legal. omega (arith, low, legal.0)))
       (λ some. ⊎_elim (λ high. out_of_range (λ legal. omega (arith, high, legal.1))) (λ few. in_range (some, few)) (cases_lt 10000000 price))
       (cases_lt price 1)
+
+-- a test of a range, and the range
+module _ (most n : ℕ) where
+  pub within_so : within most n ≡ true → Within most n
+  within_so t = let both = and_parts (leb 1 n) (leb n most) t in (leb-true 1 n both.0, leb-true n most both.1)
+
+  pub so_within : Within most n → within most n ≡ true
+  so_within range = and_from (leb 1 n) (leb n most) (le-leb 1 n range.0) (le-leb n most range.1)
 
 -- A judgement that passes passes in each of its parts.
 module _ {E : Type 0} where
