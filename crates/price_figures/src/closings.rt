@@ -1,5 +1,5 @@
 // Figures of the closing price.
-use closing::{ClosingInputs, PricedTrade, closing_price};
+use closing::{ClosingInputs, LastPrice, PricedTrade, closing_price};
 use ranking::SurveyPrice;
 use session::Session;
 
@@ -7,7 +7,6 @@ use session::Session;
 const NOTHING: ClosingInputs<'static> = ClosingInputs {
     today: None,
     last: None,
-    age: 0,
     out_of_market: false,
     trades: &[],
     best_buy: None,
@@ -18,8 +17,10 @@ const NOTHING: ClosingInputs<'static> = ClosingInputs {
 /// Everything is given, and each criterion would give another price.
 const EVERYTHING: ClosingInputs<'static> = ClosingInputs {
     today: Some(11_000),
-    last: Some(12_000),
-    age: 1,
+    last: Some(LastPrice {
+        price: 12_000,
+        age: 1,
+    }),
     out_of_market: false,
     trades: &[PricedTrade {
         price: 13_000,
@@ -79,39 +80,50 @@ static FIGURES: [ClosingFigure; 60] = [
     ClosingFigure {
         name: "last 9990 of age 0",
         inputs: ClosingInputs {
-            last: Some(9_990),
+            last: Some(LastPrice {
+                price: 9_990,
+                age: 0,
+            }),
             ..NOTHING
         },
     },
     ClosingFigure {
         name: "last 9990 of age 1",
         inputs: ClosingInputs {
-            last: Some(9_990),
-            age: 1,
+            last: Some(LastPrice {
+                price: 9_990,
+                age: 1,
+            }),
             ..NOTHING
         },
     },
     ClosingFigure {
         name: "last 9990 of age 5",
         inputs: ClosingInputs {
-            last: Some(9_990),
-            age: 5,
+            last: Some(LastPrice {
+                price: 9_990,
+                age: 5,
+            }),
             ..NOTHING
         },
     },
     ClosingFigure {
         name: "last 9990 of age 6",
         inputs: ClosingInputs {
-            last: Some(9_990),
-            age: 6,
+            last: Some(LastPrice {
+                price: 9_990,
+                age: 6,
+            }),
             ..NOTHING
         },
     },
     ClosingFigure {
         name: "last 9990 of age 1 marked",
         inputs: ClosingInputs {
-            last: Some(9_990),
-            age: 1,
+            last: Some(LastPrice {
+                price: 9_990,
+                age: 1,
+            }),
             out_of_market: true,
             ..NOTHING
         },
@@ -430,14 +442,17 @@ static FIGURES: [ClosingFigure; 60] = [
     ClosingFigure {
         name: "last 0",
         inputs: ClosingInputs {
-            last: Some(0),
+            last: Some(LastPrice { price: 0, age: 1 }),
             ..EVERYTHING
         },
     },
     ClosingFigure {
         name: "last 12005",
         inputs: ClosingInputs {
-            last: Some(12_005),
+            last: Some(LastPrice {
+                price: 12_005,
+                age: 1,
+            }),
             ..EVERYTHING
         },
     },
@@ -555,14 +570,17 @@ static FIGURES: [ClosingFigure; 60] = [
         name: "today 11005, last 0",
         inputs: ClosingInputs {
             today: Some(11_005),
-            last: Some(0),
+            last: Some(LastPrice { price: 0, age: 0 }),
             ..NOTHING
         },
     },
     ClosingFigure {
         name: "last 12005, trade of 0",
         inputs: ClosingInputs {
-            last: Some(12_005),
+            last: Some(LastPrice {
+                price: 12_005,
+                age: 0,
+            }),
             trades: &[PricedTrade {
                 price: 13_000,
                 quantity: 0,
@@ -666,7 +684,7 @@ pub(crate) fn show_all(rt: &HostRuntime, session: Session) -> anyhow::Result<()>
         match closing_price(session, figure.inputs) {
             Ok(price) => println!(rt; "closing, {name}: {price}")?,
             Err(why) => {
-                let code = why.code();
+                let code = u8::from(why);
                 println!(rt; "closing, {name}: refused {code}")?;
             }
         }

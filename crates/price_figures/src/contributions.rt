@@ -141,7 +141,7 @@ fn take_steps(
         match contribute(session, run, used, step.item) {
             Ok(more) => println!(rt; "{more}")?,
             Err(why) => {
-                let code = why.code();
+                let code = u8::from(why);
                 println!(rt; "refused {code}")?;
             }
         }
