@@ -1,4 +1,5 @@
 // Figures of the closing price.
+use crate::refused::show_refused;
 use closing::{ClosingInputs, LastPrice, PricedTrade, closing_price};
 use ranking::SurveyPrice;
 use session::Session;
@@ -681,12 +682,10 @@ static FIGURES: [ClosingFigure; 60] = [
 pub(crate) fn show_all(rt: &HostRuntime, session: Session) -> anyhow::Result<()> {
     for figure in &FIGURES {
         let name = figure.name;
+        print!(rt; "closing, {name}: ")?;
         match closing_price(session, figure.inputs) {
-            Ok(price) => println!(rt; "closing, {name}: {price}")?,
-            Err(why) => {
-                let code = u8::from(why);
-                println!(rt; "closing, {name}: refused {code}")?;
-            }
+            Ok(price) => println!(rt; "{price}")?,
+            Err(why) => show_refused(rt, why)?,
         }
     }
     Ok(())

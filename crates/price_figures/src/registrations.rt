@@ -1,4 +1,5 @@
 // Figures of the registration verdict.
+use crate::refused::show_refused;
 use registration::{BestPrice, Registration, verdict};
 use session::Session;
 
@@ -428,15 +429,10 @@ static FIGURES: [VerdictFigure; 46] = [
 pub(crate) fn show_all(rt: &HostRuntime, session: Session) -> anyhow::Result<()> {
     for figure in &FIGURES {
         let name = figure.name;
+        print!(rt; "registration, {name}: ")?;
         match verdict(session, figure.asked) {
-            Ok(criterion) => {
-                let number = u8::from(criterion);
-                println!(rt; "registration, {name}: accepted by {number}")?;
-            }
-            Err(why) => {
-                let code = u8::from(why);
-                println!(rt; "registration, {name}: refused {code}")?;
-            }
+            Ok(criterion) => println!(rt; "accepted by {}", u8::from(criterion))?,
+            Err(why) => show_refused(rt, why)?,
         }
     }
     Ok(())
