@@ -32,7 +32,7 @@ impl Session {
         if !(1..=MAX_PRICE).contains(&price) {
             return Err(PriceRefusal::PriceRange);
         }
-        if price % self.tick != 0 {
+        if !price.is_multiple_of(self.tick) {
             return Err(PriceRefusal::OffTick);
         }
         Ok(price / self.tick)
