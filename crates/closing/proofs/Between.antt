@@ -1,8 +1,12 @@
--- The nearest multiple of the tick lies between any two multiples that the mean lies between. Assumes nothing.
+-- A mean of prices rounds to a price again: the nearest multiple of the tick lies between any two multiples that the mean lies between. Assumes nothing.
 use Rattle.std.proofs.Common.{◌≡◌, ℕ, ◌+◌, ◌*◌, ◌/◌, ◌<◌, ◌≤◌, sym, ap, ⊎_elim, mul-le-mul_right, add-mul, mul-pos, le-div_iff_mul-le, div-mul-le_self, arith}
 use Rattle.std.proofs.lemmas.Bool.{cases_lt}
-use Rattle.session.specs.Rounding.{Nearest}
+use Rattle.session.specs.Rounding.{Nearest, nearest}
+use Rattle.session.proofs.Nearness.{nearness}
 use Rattle.session.specs.Judgements.{OnTick}
+
+pub near : (tick sum weight : ℕ) → 1 ≤ tick → 0 < weight → Nearest tick sum weight (nearest tick sum weight)
+near tick sum weight some weighed = nearness tick sum weight (λ none. omega (arith, none, mul-pos {m = tick} {n = weight} some weighed))
 
 module _ (tick sum weight price : ℕ) (some : 1 ≤ tick) (weighed : 0 < weight) (near : Nearest tick sum weight price) where
   -- one multiple more is a tick more, weighed
@@ -31,8 +35,8 @@ abbrev pub top : ℕ → ℕ
 top tick = 10000000 / tick
 
 -- a price that passed is at least one tick, and at most the highest multiple
-pub within : (tick price : ℕ) → 1 ≤ tick → OnTick tick price → (1 * tick ≤ price) × (price ≤ top tick * tick)
-within tick price some on =
+pub in_bounds : (tick price : ℕ) → 1 ≤ tick → OnTick tick price → (1 * tick ≤ price) × (price ≤ top tick * tick)
+in_bounds tick price some on =
     let low : 1 ≤ on.ticks = ⊎_elim (λ none. absurd (omega (arith, on.legal.0, on.exact, mul-le-mul_right {m = on.ticks} {n = 0} tick (omega arith)))) (λ h. h) (cases_lt on.ticks 1) in
     let high : on.ticks ≤ top tick = (le-div_iff_mul-le {k = tick} {x = on.ticks} {y = 10000000} some).1 (omega (arith, on.exact, on.legal.1)) in
     (omega (arith, on.exact, mul-le-mul_right {m = 1} {n = on.ticks} tick low), omega (arith, on.exact, mul-le-mul_right {m = on.ticks} {n = top tick} tick high))

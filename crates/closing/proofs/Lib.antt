@@ -1,9 +1,5 @@
 pub mod Between
 pub mod Closed
-pub mod Contributing
 pub mod Halving
-pub mod Items
 pub mod Legal
-pub mod Means
-pub mod Medians
 pub mod Totals

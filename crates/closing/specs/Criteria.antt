@@ -1,9 +1,11 @@
 -- The criteria for a closing price: each gives a price if it serves, and the first that serves gives the closing price. Assumes nothing.
-use Rattle.std.specs.Prelude.{ℕ, ◌+◌, ◌-◌, ◌*◌, ◌/◌, ◌%◌, Bool, cond, ◌&&◌, List, [], ◌∷◌, map, length, Some, None, Option, Result, ◌==◌, nat_le, slice_index}
-use Rattle.std.specs.Option.{ok_or}
+use Rattle.std.specs.Prelude.{ℕ, ◌+◌, ◌-◌, ◌*◌, ◌/◌, ◌%◌, Bool, cond, ◌&&◌, List, map, sum_by, length, Some, None, Option, Result, ◌==◌, nat_le, slice_index}
+use Rattle.std.specs.Option.{ok_or, option_or}
+use Rattle.session.specs.Ranges.{within}
 use Rattle.session.specs.Rounding.{nearest}
 use Rattle.ranking.specs.declared.surveys.SurveyPrice.{SurveyPrice}
 use Rattle.closing.specs.declared.inputs.PricedTrade.{PricedTrade}
+use Rattle.closing.specs.declared.inputs.LastPrice.{LastPrice}
 use Rattle.closing.specs.declared.inputs.ClosingInputs.{ClosingInputs}
 use Rattle.closing.specs.declared.refusals.ClosingRefusal.{ClosingRefusal}
 use Rattle.closing.specs.declared.refusals.ClosingRefusal.TheVariants.{NoCriterion}
@@ -15,17 +17,19 @@ abbrev pub of_today : ClosingInputs → Option ℕ
 of_today inputs = cond inputs.out_of_market None inputs.today
 
 -- 2. the last closing auction's price, if it is 1 to 5 business days old, unless marked
+abbrev pub of_aged : Option LastPrice → Option ℕ
+of_aged None = None
+of_aged (Some last) = cond (within 5 last.age) (Some last.price) None
+
 abbrev pub of_last : ClosingInputs → Option ℕ
-of_last inputs = cond inputs.out_of_market None (cond (nat_le 1 inputs.age && nat_le inputs.age 5) inputs.last None)
+of_last inputs = cond inputs.out_of_market None (of_aged inputs.last)
 
 -- what trades come to: the sum of each price times its quantity, and the sum of the quantities
-unfoldable pub worth_of : List PricedTrade → ℕ
-worth_of [] = 0
-worth_of (trade ∷ trades) = trade.price * trade.quantity + worth_of trades
+abbrev pub worth_of : List PricedTrade → ℕ
+worth_of trades = sum_by (λ trade. trade.price * trade.quantity) trades
 
-unfoldable pub contracts_of : List PricedTrade → ℕ
-contracts_of [] = 0
-contracts_of (trade ∷ trades) = trade.quantity + contracts_of trades
+abbrev pub contracts_of : List PricedTrade → ℕ
+contracts_of trades = sum_by (λ trade. trade.quantity) trades
 
 -- 3. the mean price weighted by quantity, if there are three trades or more
 abbrev pub of_trades : ℕ → ClosingInputs → Option ℕ
@@ -56,18 +60,13 @@ median tick survey count = cond (count % 2 == 1) (price_at survey (count / 2)) (
 abbrev pub of_survey : ℕ → ClosingInputs → Option ℕ
 of_survey tick inputs = cond (nat_le 5 (length inputs.survey.now)) (Some (median tick inputs.survey.now (length inputs.survey.now))) None
 
--- a criterion that does not serve leaves it to the next
-abbrev pub or_else : Option ℕ → Option ℕ → Option ℕ
-or_else None next = next
-or_else (Some price) next = Some price
-
--- the price of the first criterion that serves
+-- the price of the first criterion that serves: one that does not leaves it to the next
 abbrev pub first_price : ℕ → ClosingInputs → Option ℕ
 first_price tick inputs =
-    or_else (of_today inputs) (
-    or_else (of_last inputs) (
-    or_else (of_trades tick inputs) (
-    or_else (of_best tick inputs) (
+    option_or (of_today inputs) (
+    option_or (of_last inputs) (
+    option_or (of_trades tick inputs) (
+    option_or (of_best tick inputs) (
     of_survey tick inputs))))
 
 -- the closing price: everything is judged first, and refused at the end if no criterion serves

@@ -35,7 +35,7 @@ pub record Median (tick : ℕ) (survey : List SurveyPrice) (price : ℕ) : Type 
 -- the first criterion that serves, with what it says of the price; those before it do not serve
 pub data ClosedBy (tick : ℕ) (inputs : ClosingInputs) (price : ℕ) : Type 0 where
   by_today : inputs.out_of_market ≡ false → inputs.today ≡ Some price → ClosedBy tick inputs price
-  by_last : of_today inputs ≡ None → inputs.out_of_market ≡ false → 1 ≤ inputs.age → inputs.age ≤ 5 → inputs.last ≡ Some price → ClosedBy tick inputs price
+  by_last : of_today inputs ≡ None → inputs.out_of_market ≡ false → (age : ℕ) → 1 ≤ age → age ≤ 5 → inputs.last ≡ Some (record { price = price; age = age }) → ClosedBy tick inputs price
   by_trades : of_today inputs ≡ None → of_last inputs ≡ None → 3 ≤ length inputs.trades.now → WeightedMean tick inputs.trades.now price → ClosedBy tick inputs price
   by_best : of_today inputs ≡ None → of_last inputs ≡ None → length inputs.trades.now < 3 → (buy sell : ℕ) → inputs.best_buy ≡ Some buy → inputs.best_sell ≡ Some sell → buy ≤ sell → sell ≤ buy + 5000 → Nearest tick (buy + sell) 2 price → ClosedBy tick inputs price
   by_survey : of_today inputs ≡ None → of_last inputs ≡ None → length inputs.trades.now < 3 → of_best tick inputs ≡ None → 5 ≤ length inputs.survey.now → Median tick inputs.survey.now price → ClosedBy tick inputs price

@@ -1,17 +1,19 @@
 -- What a closing price refuses: the lists, then each item in the order named. Assumes nothing.
 use Rattle.std.specs.Prelude.{ℕ, Bool, cond, ◌&&◌, List, [], ◌∷◌, length, Ok, Err, nat_le}
+use Rattle.std.specs.Option.{option_map}
 use Rattle.ranking.specs.declared.surveys.SurveyPrice.{SurveyPrice}
 use Rattle.ranking.specs.Runs.{in_rank}
 use Rattle.ranking.specs.Surveys.{survey_before}
 use Rattle.closing.specs.declared.inputs.PricedTrade.{PricedTrade}
 use Rattle.closing.specs.declared.inputs.ClosingInputs.{ClosingInputs}
 use Rattle.closing.specs.declared.refusals.ClosingRefusal.TheVariants.{QuantityRange, ClosingLists}
+use Rattle.session.specs.Ranges.{within}
 use Rattle.session.specs.Judgements.{onward}
 use Rattle.closing.specs.Refusals.{Judgement, judged_price, judged_given}
 
 -- a trade's contracts
 abbrev pub is_quantity : ℕ → Bool
-is_quantity quantity = nat_le 1 quantity && nat_le quantity 6858
+is_quantity quantity = within 6858 quantity
 
 abbrev pub judged_quantity : ℕ → Judgement
 judged_quantity quantity = cond (is_quantity quantity) (Ok tt) (Err QuantityRange)
@@ -40,7 +42,7 @@ abbrev pub judged_inputs : ℕ → ClosingInputs → Judgement
 judged_inputs tick inputs =
     onward (judged_lists inputs.trades.now inputs.survey.now) (
     onward (judged_given tick inputs.today) (
-    onward (judged_given tick inputs.last) (
+    onward (judged_given tick (option_map (λ last. last.price) inputs.last)) (
     onward (judged_each (judged_trade tick) inputs.trades.now) (
     onward (judged_given tick inputs.best_buy) (
     onward (judged_given tick inputs.best_sell) (

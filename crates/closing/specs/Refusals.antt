@@ -1,23 +1,20 @@
 -- The number of each refusal of a contribution and of a closing price, and how prices are judged. Assumes nothing.
 use Rattle.std.specs.Prelude.{ℕ, Option, Result}
 use Rattle.session.specs.declared.judgements.PriceRefusal.{PriceRefusal}
-use Rattle.session.specs.declared.judgements.PriceRefusal.TheVariants as price
-use Rattle.session.specs.Judgements.{price_judged, given_judged, passed_as}
+use Rattle.session.specs.Judgements.{price_numbered, price_judged, given_judged, passed_as}
 use Rattle.closing.specs.declared.refusals.ClosingRefusal.{ClosingRefusal}
-use Rattle.closing.specs.declared.refusals.ClosingRefusal.TheVariants.{QuantityRange, PriceRange, OffTick, Full, ClosingLists, NoCriterion}
+use Rattle.closing.specs.declared.refusals.ClosingRefusal.TheVariants.{QuantityRange, Price, Full, ClosingLists, NoCriterion}
 
 abbrev pub numbered : ClosingRefusal → ℕ
 numbered QuantityRange = 4
-numbered PriceRange = 5
-numbered OffTick = 6
+numbered (Price cause) = price_numbered cause
 numbered Full = 9
 numbered ClosingLists = 17
 numbered NoCriterion = 18
 
 -- a price's refusal keeps its number
 abbrev pub of_price : PriceRefusal → ClosingRefusal
-of_price price.PriceRange = PriceRange
-of_price price.OffTick = OffTick
+of_price cause = Price cause
 
 -- what judging answers: that it passes, or why not
 abbrev pub Judgement : Type 0

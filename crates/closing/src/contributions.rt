@@ -15,6 +15,7 @@ pub const MAX_SURVEY: usize = 64;
 ///
 /// The item stands just before the first that it goes before, or last, and later places stay. Refused by the price, then if
 /// 64 places or all are used; a refusal leaves the run as it was. `used + 1` is at most 64, so that it does not overflow.
+// The run is memory that the caller lends, and `used` is judged and answered: so the count stands beside the slice.
 pub fn contribute(
     session: Session,
     run: &mut [SurveyPrice],
@@ -30,6 +31,6 @@ pub fn contribute(
         return Err(ClosingRefusal::Full);
     }
     run[used] = item;
-    settle_last(&mut run[0..used + 1]);
+    settle_last(&mut run[..=used]);
     Ok(used + 1)
 }

@@ -1,10 +1,10 @@
 // The criteria for a closing price, each with the price that it gives if it serves.
-ghost use Rattle.std.specs.Prelude.{◌≡◌, ◌*◌, ◌^◌, ◌<◌, ◌≤◌, Some, Ok};
+ghost use Rattle.std.specs.Prelude.{◌≡◌, ◌*◌, ◌^◌, ◌<◌, ◌≤◌, Some};
 ghost use Rattle.session.specs.Rounding.{nearest};
-ghost use Rattle.closing.specs.Judging.{judged_inputs};
-ghost use Rattle.closing.specs.Criteria.{worth_of, contracts_of, of_today, of_last, of_trades, of_best, of_survey};
+ghost use Rattle.closing.specs.Criteria.{worth_of, contracts_of, of_today, of_last, of_trades, of_best, of_survey, first_price};
 
-use crate::inputs::{ClosingInputs, PricedTrade};
+use crate::inputs::PricedTrade;
+use crate::judged::JudgedInputs;
 use session::{Session, rounded};
 
 /// The oldest that the last closing auction's price may be, in business days.
@@ -39,6 +39,7 @@ fn mean(session: Session, sum: u64, weight: u64) -> Option<u32>
 /// What the trades come to, each trade read once.
 ///
 /// The most are 1,024 trades of 6,858 contracts at 10,000,000: they come to 70,225,920,000,000, which fits 64 bits.
+// One loop for both sums: two chains that end in `sum` would read each trade twice.
 fn total_of(trades: &[PricedTrade]) -> Totals
     requires worth_fits { worth_of trades.now < 2 ^ 64 }
     requires contracts_fit { contracts_of trades.now < 2 ^ 64 }
@@ -54,67 +55,80 @@ fn total_of(trades: &[PricedTrade]) -> Totals
     Totals { worth, contracts }
 }
 
-/// Today's auction price, unless it is out of the market.
-pub(crate) fn todays_price(inputs: ClosingInputs) -> Option<u32>
-    ensures { result ≡ of_today inputs.entry }
-{
-    if inputs.out_of_market {
-        return None;
+impl JudgedInputs<'_> {
+    /// Today's auction price, unless it is out of the market.
+    fn todays_price(self) -> Option<u32>
+        ensures { result ≡ of_today self.entry.inputs }
+    {
+        if self.inputs.out_of_market {
+            return None;
+        }
+        self.inputs.today
     }
-    inputs.today
-}
 
-/// The last closing auction's price, if it is 1 to 5 business days old and not out of the market.
-pub(crate) fn last_price(inputs: ClosingInputs) -> Option<u32>
-    ensures { result ≡ of_last inputs.entry }
-{
-    if inputs.out_of_market || inputs.age == 0 || inputs.age > MAX_AGE {
-        return None;
+    /// The last closing auction's price, if it is 1 to 5 business days old and not out of the market.
+    fn last_price(self) -> Option<u32>
+        ensures { result ≡ of_last self.entry.inputs }
+    {
+        let last = self.inputs.last?;
+        if self.inputs.out_of_market || !(1..=MAX_AGE).contains(&last.age) {
+            return None;
+        }
+        Some(last.price)
     }
-    inputs.last
-}
 
-/// The mean price of three trades or more, weighted by quantity.
-pub(crate) fn traded_mean(session: Session, inputs: ClosingInputs) -> Option<u32>
-    requires { judged_inputs session.tick inputs ≡ Ok tt }
-    ensures { result ≡ of_trades session.tick inputs.entry }
-{
-    if inputs.trades.len() < FEWEST_TRADES {
-        return None;
+    /// The mean price of three trades or more, weighted by quantity.
+    fn traded_mean(self) -> Option<u32>
+        ensures { result ≡ of_trades self.entry.session.tick self.entry.inputs }
+    {
+        if self.inputs.trades.len() < FEWEST_TRADES {
+            return None;
+        }
+        let totals = total_of(self.inputs.trades);
+        mean(self.session, totals.worth, totals.contracts)
     }
-    let totals = total_of(inputs.trades);
-    mean(session, totals.worth, totals.contracts)
-}
 
-/// The mean of best buy and best sell, if the sell is not below the buy nor too far above it.
-pub(crate) fn best_mean(session: Session, inputs: ClosingInputs) -> Option<u32>
-    requires { judged_inputs session.tick inputs ≡ Ok tt }
-    ensures { result ≡ of_best session.tick inputs.entry }
-{
-    let buy = inputs.best_buy?;
-    let sell = inputs.best_sell?;
-    if sell < buy || sell - buy > WIDEST_SPREAD {
-        return None;
+    /// The mean of best buy and best sell, if the sell is not below the buy nor too far above it.
+    fn best_mean(self) -> Option<u32>
+        ensures { result ≡ of_best self.entry.session.tick self.entry.inputs }
+    {
+        let buy = self.inputs.best_buy?;
+        let sell = self.inputs.best_sell?;
+        if sell.checked_sub(buy)? > WIDEST_SPREAD {
+            return None;
+        }
+        // two prices of 32 bits: their sum fits 64
+        mean(self.session, u64::from(buy) + u64::from(sell), 2)
     }
-    // two prices of 32 bits: their sum fits 64
-    mean(session, u64::from(buy) + u64::from(sell), 2)
-}
 
-/// The median of five survey prices or more.
-pub(crate) fn survey_median(session: Session, inputs: ClosingInputs) -> Option<u32>
-    requires { judged_inputs session.tick inputs ≡ Ok tt }
-    ensures { result ≡ of_survey session.tick inputs.entry }
-{
-    let survey = inputs.survey;
-    let count = survey.len();
-    if count < FEWEST_SURVEY {
-        return None;
+    /// The median of five survey prices or more.
+    fn survey_median(self) -> Option<u32>
+        ensures { result ≡ of_survey self.entry.session.tick self.entry.inputs }
+    {
+        let survey = self.inputs.survey;
+        let count = survey.len();
+        if count < FEWEST_SURVEY {
+            return None;
+        }
+        let upper = survey[count / 2].price;
+        if count % 2 == 1 {
+            return Some(upper);
+        }
+        let lower = survey[count / 2 - 1].price;
+        // two prices of 32 bits: their sum fits 64
+        mean(self.session, u64::from(lower) + u64::from(upper), 2)
     }
-    let upper = survey[count / 2].price;
-    if count % 2 == 1 {
-        return Some(upper);
+
+    /// The price of the first criterion that serves.
+    // All five are worked out, which is less than judging did: it read everything too. With `or_else` the closures would
+    // lend `self`, which holds references, and nothing is known of what such a closure returns.
+    pub(crate) fn first_price(self) -> Option<u32>
+        ensures { result ≡ first_price self.entry.session.tick self.entry.inputs }
+    {
+        self.todays_price()
+            .or(self.last_price())
+            .or(self.traded_mean())
+            .or(self.best_mean())
+            .or(self.survey_median())
     }
-    let lower = survey[count / 2 - 1].price;
-    // two prices of 32 bits: their sum fits 64
-    mean(session, u64::from(lower) + u64::from(upper), 2)
 }

@@ -10,16 +10,24 @@ pub struct PricedTrade {
     pub quantity: u32,
 }
 
+/// The price of the last closing auction.
+#[derive(Clone, Copy, Debug, PartialEq, Eq)]
+pub struct LastPrice {
+    /// The price, in centavos.
+    pub price: u32,
+    /// How old it is, in business days.
+    pub age: u32,
+}
+
 /// Everything that the criteria for a closing price look at. Single prices may be absent.
 #[derive(Clone, Copy)]
 pub struct ClosingInputs<'a> {
     /// Today's auction price.
     pub today: Option<u32>,
     /// The price of the last closing auction.
-    pub last: Option<u32>,
-    /// How old that price is, in business days.
-    pub age: u32,
+    pub last: Option<LastPrice>,
     /// Whether the two auction prices are out of the market.
+    // A mark of its own: it stands over both prices, and marked prices are judged all the same.
     pub out_of_market: bool,
     /// The day's trades.
     pub trades: &'a [PricedTrade],

@@ -4,39 +4,40 @@ ghost use Rattle.closing.specs.Refusals.{numbered, of_price};
 
 use session::PriceRefusal;
 
-/// A refusal; each case carries its number.
+/// A refusal, which keeps the cause of a refused price.
 #[derive(Clone, Copy, Debug, PartialEq, Eq)]
 pub enum ClosingRefusal {
     /// A trade's quantity is not 1 to 6,858.
-    QuantityRange = 4,
-    /// A price is not 1 to 10,000,000.
-    PriceRange = 5,
-    /// A price is no whole multiple of the tick.
-    OffTick = 6,
+    QuantityRange,
+    /// A price is refused.
+    Price(PriceRefusal),
     /// The survey has as many prices as its run has places, or 64.
-    Full = 9,
+    Full,
     /// More than 1,024 trades, more than 64 survey prices, or a survey that is out of rank.
-    ClosingLists = 17,
+    ClosingLists,
     /// No criterion for a closing price serves.
-    NoCriterion = 18,
-}
-
-impl ClosingRefusal {
-    /// The refusal's number.
-    pub fn code(self) -> u8
-        ensures { result ≡ numbered self }
-    {
-        self as u8
-    }
+    NoCriterion,
 }
 
 impl From<PriceRefusal> for ClosingRefusal {
     ghost from_gives = { λ cause why. why ≡ of_price cause };
 
     fn from(cause: PriceRefusal) -> ClosingRefusal {
-        match cause {
-            PriceRefusal::PriceRange => ClosingRefusal::PriceRange,
-            PriceRefusal::OffTick => ClosingRefusal::OffTick,
+        ClosingRefusal::Price(cause)
+    }
+}
+
+/// The refusal's number.
+impl From<ClosingRefusal> for u8 {
+    ghost from_gives = { λ why code. code ≡ numbered why };
+
+    fn from(why: ClosingRefusal) -> u8 {
+        match why {
+            ClosingRefusal::QuantityRange => 4,
+            ClosingRefusal::Price(cause) => u8::from(cause),
+            ClosingRefusal::Full => 9,
+            ClosingRefusal::ClosingLists => 17,
+            ClosingRefusal::NoCriterion => 18,
         }
     }
 }

@@ -2,7 +2,7 @@
 use Rattle.std.specs.Prelude.{ℕ, Ok, Err, Result}
 use Rattle.lines.specs.declared.refusals.MalformedLine.{MalformedLine}
 use Rattle.book.specs.declared.refusals.BookRefusal.TheVariants.{UnknownOrder, CutRange, Full, NumbersSpent}
-use Rattle.session.specs.declared.refusals.SessionRefusal.TheVariants.{SessionRange, QuantityRange, PriceRange, OffTick, NoVolume, RegisterShort}
+use Rattle.session.specs.declared.refusals.SessionRefusal.TheVariants.{SessionRange, QuantityRange, Price, NoVolume, RegisterShort}
 use Rattle.trading.specs.declared.refusals.Refusal.{Refusal}
 use Rattle.trading.specs.declared.refusals.Refusal.TheVariants.{Book as OfBook, Session as OfSession}
 use Rattle.feed.specs.declared.faults.Cause.TheVariants.{Malformed, OutOfTurn, Refused}
@@ -17,8 +17,7 @@ place_of p (OfBook Full) = p.start
 place_of p (OfBook NumbersSpent) = p.start
 place_of p (OfSession SessionRange) = p.terms
 place_of p (OfSession QuantityRange) = p.quantity
-place_of p (OfSession PriceRange) = p.price
-place_of p (OfSession OffTick) = p.price
+place_of p (OfSession (Price cause)) = p.price
 place_of p (OfSession NoVolume) = p.start
 place_of p (OfSession RegisterShort) = p.start
 

@@ -49,7 +49,7 @@ impl Places {
             Refusal::Book(BookRefusal::Full | BookRefusal::NumbersSpent) => self.start,
             Refusal::Session(SessionRefusal::SessionRange) => self.terms,
             Refusal::Session(SessionRefusal::QuantityRange) => self.quantity,
-            Refusal::Session(SessionRefusal::PriceRange | SessionRefusal::OffTick) => self.price,
+            Refusal::Session(SessionRefusal::Price(_)) => self.price,
             Refusal::Session(SessionRefusal::NoVolume | SessionRefusal::RegisterShort) => {
                 self.start
             }

@@ -1,5 +1,6 @@
 // Figures of the closing price.
-use closing::{ClosingInputs, PricedTrade, closing_price};
+use crate::refused::show_refused;
+use closing::{ClosingInputs, LastPrice, PricedTrade, closing_price};
 use ranking::SurveyPrice;
 use session::Session;
 
@@ -7,7 +8,6 @@ use session::Session;
 const NOTHING: ClosingInputs<'static> = ClosingInputs {
     today: None,
     last: None,
-    age: 0,
     out_of_market: false,
     trades: &[],
     best_buy: None,
@@ -18,8 +18,10 @@ const NOTHING: ClosingInputs<'static> = ClosingInputs {
 /// Everything is given, and each criterion would give another price.
 const EVERYTHING: ClosingInputs<'static> = ClosingInputs {
     today: Some(11_000),
-    last: Some(12_000),
-    age: 1,
+    last: Some(LastPrice {
+        price: 12_000,
+        age: 1,
+    }),
     out_of_market: false,
     trades: &[PricedTrade {
         price: 13_000,
@@ -79,39 +81,50 @@ static FIGURES: [ClosingFigure; 60] = [
     ClosingFigure {
         name: "last 9990 of age 0",
         inputs: ClosingInputs {
-            last: Some(9_990),
+            last: Some(LastPrice {
+                price: 9_990,
+                age: 0,
+            }),
             ..NOTHING
         },
     },
     ClosingFigure {
         name: "last 9990 of age 1",
         inputs: ClosingInputs {
-            last: Some(9_990),
-            age: 1,
+            last: Some(LastPrice {
+                price: 9_990,
+                age: 1,
+            }),
             ..NOTHING
         },
     },
     ClosingFigure {
         name: "last 9990 of age 5",
         inputs: ClosingInputs {
-            last: Some(9_990),
-            age: 5,
+            last: Some(LastPrice {
+                price: 9_990,
+                age: 5,
+            }),
             ..NOTHING
         },
     },
     ClosingFigure {
         name: "last 9990 of age 6",
         inputs: ClosingInputs {
-            last: Some(9_990),
-            age: 6,
+            last: Some(LastPrice {
+                price: 9_990,
+                age: 6,
+            }),
             ..NOTHING
         },
     },
     ClosingFigure {
         name: "last 9990 of age 1 marked",
         inputs: ClosingInputs {
-            last: Some(9_990),
-            age: 1,
+            last: Some(LastPrice {
+                price: 9_990,
+                age: 1,
+            }),
             out_of_market: true,
             ..NOTHING
         },
@@ -430,14 +443,17 @@ static FIGURES: [ClosingFigure; 60] = [
     ClosingFigure {
         name: "last 0",
         inputs: ClosingInputs {
-            last: Some(0),
+            last: Some(LastPrice { price: 0, age: 1 }),
             ..EVERYTHING
         },
     },
     ClosingFigure {
         name: "last 12005",
         inputs: ClosingInputs {
-            last: Some(12_005),
+            last: Some(LastPrice {
+                price: 12_005,
+                age: 1,
+            }),
             ..EVERYTHING
         },
     },
@@ -555,14 +571,17 @@ static FIGURES: [ClosingFigure; 60] = [
         name: "today 11005, last 0",
         inputs: ClosingInputs {
             today: Some(11_005),
-            last: Some(0),
+            last: Some(LastPrice { price: 0, age: 0 }),
             ..NOTHING
         },
     },
     ClosingFigure {
         name: "last 12005, trade of 0",
         inputs: ClosingInputs {
-            last: Some(12_005),
+            last: Some(LastPrice {
+                price: 12_005,
+                age: 0,
+            }),
             trades: &[PricedTrade {
                 price: 13_000,
                 quantity: 0,
@@ -663,12 +682,10 @@ static FIGURES: [ClosingFigure; 60] = [
 pub(crate) fn show_all(rt: &HostRuntime, session: Session) -> anyhow::Result<()> {
     for figure in &FIGURES {
         let name = figure.name;
+        print!(rt; "closing, {name}: ")?;
         match closing_price(session, figure.inputs) {
-            Ok(price) => println!(rt; "closing, {name}: {price}")?,
-            Err(why) => {
-                let code = why.code();
-                println!(rt; "closing, {name}: refused {code}")?;
-            }
+            Ok(price) => println!(rt; "{price}")?,
+            Err(why) => show_refused(rt, why)?,
         }
     }
     Ok(())

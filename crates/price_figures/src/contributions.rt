@@ -1,4 +1,5 @@
 // Figures of contributions to the survey.
+use crate::refused::show_refused;
 use closing::contribute;
 use ranking::SurveyPrice;
 use session::Session;
@@ -140,10 +141,7 @@ fn take_steps(
         print!(rt; "survey {used} of {places}, {price} by {contributor}: ")?;
         match contribute(session, run, used, step.item) {
             Ok(more) => println!(rt; "{more}")?,
-            Err(why) => {
-                let code = why.code();
-                println!(rt; "refused {code}")?;
-            }
+            Err(why) => show_refused(rt, why)?,
         }
     }
     Ok(())

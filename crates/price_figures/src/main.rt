@@ -3,6 +3,7 @@
 
 mod closings;
 mod contributions;
+mod refused;
 mod registrations;
 
 use anyhow::anyhow;

@@ -1,23 +1,34 @@
 // Figures of the registration verdict.
-use registration::{Registration, verdict};
+use crate::refused::show_refused;
+use registration::{BestPrice, Registration, verdict};
 use session::Session;
+
+/// A best buy that is just deep enough.
+const BUY: BestPrice = BestPrice {
+    price: 10_000,
+    depth: 100,
+};
+
+/// A best sell that is just deep enough.
+const SELL: BestPrice = BestPrice {
+    price: 10_200,
+    depth: 100,
+};
 
 /// At 10,000, with nothing to measure it by.
 const NOTHING: Registration = Registration {
     price: 10_000,
     quantity: 100,
     best_buy: None,
-    buy_depth: 100,
     best_sell: None,
-    sell_depth: 100,
     last_trade: None,
     reference: None,
 };
 
-/// Best buy 10,000 and best sell 10,200, just deep enough.
+/// Both best prices.
 const BEST: Registration = Registration {
-    best_buy: Some(10_000),
-    best_sell: Some(10_200),
+    best_buy: Some(BUY),
+    best_sell: Some(SELL),
     ..NOTHING
 };
 
@@ -147,7 +158,7 @@ static FIGURES: [VerdictFigure; 46] = [
         asked: Registration {
             price: 8_890,
             quantity: 101,
-            sell_depth: 200,
+            best_sell: Some(BestPrice { depth: 200, ..SELL }),
             ..EVERYTHING
         },
     },
@@ -156,7 +167,7 @@ static FIGURES: [VerdictFigure; 46] = [
         asked: Registration {
             price: 8_890,
             quantity: 101,
-            buy_depth: 200,
+            best_buy: Some(BestPrice { depth: 200, ..BUY }),
             ..EVERYTHING
         },
     },
@@ -165,8 +176,8 @@ static FIGURES: [VerdictFigure; 46] = [
         asked: Registration {
             price: 8_890,
             quantity: 101,
-            buy_depth: 101,
-            sell_depth: 101,
+            best_buy: Some(BestPrice { depth: 101, ..BUY }),
+            best_sell: Some(BestPrice { depth: 101, ..SELL }),
             ..EVERYTHING
         },
     },
@@ -196,18 +207,22 @@ static FIGURES: [VerdictFigure; 46] = [
     VerdictFigure {
         name: "10000 by reference, depths 0",
         asked: Registration {
-            buy_depth: 0,
-            sell_depth: 0,
-            best_buy: Some(10_000),
-            best_sell: Some(10_200),
+            best_buy: Some(BestPrice { depth: 0, ..BUY }),
+            best_sell: Some(BestPrice { depth: 0, ..SELL }),
             ..REFERENCE
         },
     },
     VerdictFigure {
         name: "10000 by best, depths 4294967295",
         asked: Registration {
-            buy_depth: 4_294_967_295,
-            sell_depth: 4_294_967_295,
+            best_buy: Some(BestPrice {
+                depth: 4_294_967_295,
+                ..BUY
+            }),
+            best_sell: Some(BestPrice {
+                depth: 4_294_967_295,
+                ..SELL
+            }),
             ..BEST
         },
     },
@@ -261,28 +276,37 @@ static FIGURES: [VerdictFigure; 46] = [
     VerdictFigure {
         name: "best buy 0",
         asked: Registration {
-            best_buy: Some(0),
+            best_buy: Some(BestPrice { price: 0, ..BUY }),
             ..EVERYTHING
         },
     },
     VerdictFigure {
         name: "best buy 10005",
         asked: Registration {
-            best_buy: Some(10_005),
+            best_buy: Some(BestPrice {
+                price: 10_005,
+                ..BUY
+            }),
             ..EVERYTHING
         },
     },
     VerdictFigure {
         name: "best sell 10000010",
         asked: Registration {
-            best_sell: Some(10_000_010),
+            best_sell: Some(BestPrice {
+                price: 10_000_010,
+                ..SELL
+            }),
             ..EVERYTHING
         },
     },
     VerdictFigure {
         name: "best sell 10005",
         asked: Registration {
-            best_sell: Some(10_005),
+            best_sell: Some(BestPrice {
+                price: 10_005,
+                ..SELL
+            }),
             ..EVERYTHING
         },
     },
@@ -343,22 +367,28 @@ static FIGURES: [VerdictFigure; 46] = [
         name: "price 10005, best buy 0",
         asked: Registration {
             price: 10_005,
-            best_buy: Some(0),
+            best_buy: Some(BestPrice { price: 0, ..BUY }),
             ..NOTHING
         },
     },
     VerdictFigure {
         name: "best buy 10005, best sell 0",
         asked: Registration {
-            best_buy: Some(10_005),
-            best_sell: Some(0),
+            best_buy: Some(BestPrice {
+                price: 10_005,
+                ..BUY
+            }),
+            best_sell: Some(BestPrice { price: 0, ..SELL }),
             ..NOTHING
         },
     },
     VerdictFigure {
         name: "best sell 10005, last 0",
         asked: Registration {
-            best_sell: Some(10_005),
+            best_sell: Some(BestPrice {
+                price: 10_005,
+                ..SELL
+            }),
             last_trade: Some(0),
             ..NOTHING
         },
@@ -399,15 +429,10 @@ static FIGURES: [VerdictFigure; 46] = [
 pub(crate) fn show_all(rt: &HostRuntime, session: Session) -> anyhow::Result<()> {
     for figure in &FIGURES {
         let name = figure.name;
+        print!(rt; "registration, {name}: ")?;
         match verdict(session, figure.asked) {
-            Ok(criterion) => {
-                let number = criterion.number();
-                println!(rt; "registration, {name}: accepted by {number}")?;
-            }
-            Err(why) => {
-                let code = why.code();
-                println!(rt; "registration, {name}: refused {code}")?;
-            }
+            Ok(criterion) => println!(rt; "accepted by {}", u8::from(criterion))?,
+            Err(why) => show_refused(rt, why)?,
         }
     }
     Ok(())

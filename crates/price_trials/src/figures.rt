@@ -22,7 +22,7 @@ fn answer<B: OrderBook>(
     };
     match told {
         Ok(told) => format!(in heap; "{} {} {}", told.price, told.volume, told.imbalance),
-        Err(why) => format!(in heap; "refused {}", why.code()),
+        Err(why) => format!(in heap; "refused {}", u8::from(why)),
     }
 }
 

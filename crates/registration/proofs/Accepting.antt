@@ -1,18 +1,31 @@
 -- A registration is accepted by a criterion exactly if it is legal, not above the scarcity price, and in the band of the first criterion that applies. Assumes nothing.
-use Rattle.std.proofs.Common.{◌≡◌, ℕ, ◌*◌, ◌≤◌, min, Bool, true, false, cond, leb, Some, None, Ok, Err, Option, Result, sym, refl, ap, ◌∙◌, subst, arith}
-use Rattle.std.specs.Option.{option_map}
+use Rattle.std.proofs.Common.{◌≡◌, ℕ, ◌*◌, ◌≤◌, min, cond, leb, IfSome, Some, None, Ok, Err, Option, Result, sym, refl, ap, ◌∙◌, subst, arith}
+use Rattle.std.specs.Option.{option_map, option_or}
+use Rattle.std.proofs.lemmas.Option.{cond_some}
+use Rattle.session.specs.Judgements.{OnTick}
 use Rattle.std.proofs.lemmas.Bool.{and_parts, and_from, leb-true, le-leb}
-use Rattle.session.proofs.Judging.{never_passed, both_passed, passed_both, test_passed, price_on_tick, on_tick_passes, given_found, found_given}
+use Rattle.session.proofs.Judging.{within_so, so_within, both_passed, passed_both, test_passed, price_on_tick, on_tick_passes, given_found, found_given}
+use Rattle.registration.specs.declared.registrations.BestPrice.{BestPrice}
 use Rattle.registration.specs.declared.registrations.Registration.{Registration}
 use Rattle.registration.specs.declared.bands.Band.{Band}
 use Rattle.registration.specs.declared.bands.Criterion.{Criterion}
 use Rattle.registration.specs.declared.bands.Criterion.TheVariants.{BestPrices, LastTrade, Reference}
 use Rattle.registration.specs.declared.refusals.RegistrationRefusal.{RegistrationRefusal}
-use Rattle.registration.specs.declared.refusals.RegistrationRefusal.TheVariants.{QuantityRange, AboveScarcity, OutsideBand, NoBasis}
+use Rattle.registration.specs.declared.refusals.RegistrationRefusal.TheVariants.{QuantityRange, AboveScarcity, OutsideBand}
 use Rattle.registration.specs.Refusals.{of_price}
-use Rattle.registration.specs.Bands.{holds, around, between, band_of_best, best_band, or_else, first_band}
+use Rattle.registration.specs.Bands.{holds, around, between, band_of_best, best_band, first_band}
 use Rattle.registration.specs.Verdicts.{is_quantity, judged_quantity, judged_price, judged_given, judged_registration, decided, verdict_answer}
 use Rattle.registration.specs.Acceptance.{Legal, Deep, NotDeep, Within, Accepted, Exactly}
+
+-- What holds of a part of a value that may be absent.
+module _ {X : Type 0} (part : X → ℕ) (P : ℕ → Type 0) where
+  found_at : (o : Option X) → IfSome (option_map part o) P → IfSome o (λ x. P (part x))
+  found_at None h = tt
+  found_at (Some x) h = h
+
+  at_found : (o : Option X) → IfSome o (λ x. P (part x)) → IfSome (option_map part o) P
+  at_found None h = tt
+  at_found (Some x) h = h
 
 -- What is judged, and what is legal.
 module _ (tick scarcity : ℕ) (asked : Registration) where
@@ -20,17 +33,17 @@ module _ (tick scarcity : ℕ) (asked : Registration) where
   legal_from is =
       let a = both_passed (judged_quantity asked.quantity) _ tt is in
       let b = both_passed (judged_price tick asked.price) _ tt a.1 in
-      let c = both_passed (judged_given tick asked.best_buy) _ tt b.1 in
-      let d = both_passed (judged_given tick asked.best_sell) _ tt c.1 in
+      let c = both_passed (judged_given tick (option_map (λ best. best.price) asked.best_buy)) _ tt b.1 in
+      let d = both_passed (judged_given tick (option_map (λ best. best.price) asked.best_sell)) _ tt c.1 in
       let e = both_passed (judged_given tick asked.last_trade) _ tt d.1 in
       let f = both_passed (judged_given tick asked.reference) _ tt e.1 in
-      let range = and_parts (leb 1 asked.quantity) (leb asked.quantity 1000000) (test_passed (is_quantity asked.quantity) tt tt QuantityRange a.0).0 in
+      let range = within_so 1000000 asked.quantity (test_passed (is_quantity asked.quantity) tt tt QuantityRange a.0).0 in
       record {
-        some = leb-true 1 asked.quantity range.0;
-        few = leb-true asked.quantity 1000000 range.1;
+        some = range.0;
+        few = range.1;
         price = price_on_tick of_price tick asked.price b.0;
-        buy = given_found of_price tick asked.best_buy c.0;
-        sell = given_found of_price tick asked.best_sell d.0;
+        buy = found_at (λ best. best.price) (OnTick tick) asked.best_buy (given_found of_price tick _ c.0);
+        sell = found_at (λ best. best.price) (OnTick tick) asked.best_sell (given_found of_price tick _ d.0);
         last = given_found of_price tick asked.last_trade e.0;
         reference = given_found of_price tick asked.reference f.0;
         capped = leb-true asked.price scarcity (test_passed (leb asked.price scarcity) tt tt AboveScarcity f.1).0;
@@ -38,11 +51,10 @@ module _ (tick scarcity : ℕ) (asked : Registration) where
 
   from_legal : Legal tick scarcity asked → judged_registration tick scarcity asked ≡ Ok tt
   from_legal legal =
-      let range = and_from (leb 1 asked.quantity) (leb asked.quantity 1000000) (le-leb 1 asked.quantity legal.some) (le-leb asked.quantity 1000000 legal.few) in
-      passed_both (judged_quantity asked.quantity) _ tt (ap (λ t. cond t (Ok tt) (Err QuantityRange)) range)
+      passed_both (judged_quantity asked.quantity) _ tt (ap (λ t. cond t (Ok tt) (Err QuantityRange)) (so_within 1000000 asked.quantity (legal.some, legal.few)))
       (passed_both (judged_price tick asked.price) _ tt (on_tick_passes of_price tick asked.price legal.price)
-      (passed_both (judged_given tick asked.best_buy) _ tt (found_given of_price tick asked.best_buy legal.buy)
-      (passed_both (judged_given tick asked.best_sell) _ tt (found_given of_price tick asked.best_sell legal.sell)
+      (passed_both (judged_given tick (option_map (λ best. best.price) asked.best_buy)) _ tt (found_given of_price tick _ (at_found (λ best. best.price) (OnTick tick) asked.best_buy legal.buy))
+      (passed_both (judged_given tick (option_map (λ best. best.price) asked.best_sell)) _ tt (found_given of_price tick _ (at_found (λ best. best.price) (OnTick tick) asked.best_sell legal.sell))
       (passed_both (judged_given tick asked.last_trade) _ tt (found_given of_price tick asked.last_trade legal.last)
       (passed_both (judged_given tick asked.reference) _ tt (found_given of_price tick asked.reference legal.reference)
       (ap (λ t. cond t (Ok tt) (Err AboveScarcity)) (le-leb asked.price scarcity legal.capped)))))))
@@ -58,44 +70,35 @@ module _ (band : Band) (price : ℕ) where
   from_band : band.low ≤ price * 100 → price * 100 ≤ band.high → decided price (Some band) ≡ Ok band.criterion
   from_band low high = ap (λ t. cond t (Ok band.criterion) (Err OutsideBand)) (and_from (leb band.low (price * 100)) (leb (price * 100) band.high) (le-leb band.low (price * 100) low) (le-leb (price * 100) band.high high))
 
-no_band : {P : Type 0} (band : Band) → ◌≡◌ {A = Option Band} None (Some band) → P
-no_band band is = let never : ◌≡◌ {A = ℕ} 0 1 = cc in absurd (omega arith)
-
-drawn_by : (t : Bool) (x band : Band) → cond t (Some x) None ≡ Some band → (t ≡ true) × (x ≡ band)
-drawn_by true x band is = (refl, cc)
-drawn_by false x band is = no_band band is
-
 -- The best prices.
 module _ (asked : Registration) where
-  abbrev depth : ℕ
-  depth = min asked.buy_depth asked.sell_depth
-
   -- a band of the best prices is drawn by two that are deep enough
-  record Drawn (b s : Option ℕ) (band : Band) : Type 0 where
-    buy : ℕ
-    sell : ℕ
+  record Drawn (b s : Option BestPrice) (band : Band) : Type 0 where
+    buy : BestPrice
+    sell : BestPrice
     is_buy : b ≡ Some buy
     is_sell : s ≡ Some sell
-    deep : asked.quantity ≤ depth
-    is : between buy sell ≡ band
+    deep : asked.quantity ≤ min buy.depth sell.depth
+    is : between buy.price sell.price ≡ band
 
-  drawn : (b s : Option ℕ) (band : Band) → band_of_best asked.quantity depth b s ≡ Some band → Drawn b s band
-  drawn None s band is = no_band band is
-  drawn (Some buy) None band is = no_band band is
+  drawn : (b s : Option BestPrice) (band : Band) → band_of_best asked.quantity b s ≡ Some band → Drawn b s band
+  drawn None s band is = absurd cc
+  drawn (Some buy) None band is = absurd cc
   drawn (Some buy) (Some sell) band is =
-      let told = drawn_by (leb asked.quantity depth) (between buy sell) band is in
+      let depth = min buy.depth sell.depth in
+      let told = cond_some (leb asked.quantity depth) (between buy.price sell.price) band is in
       record { buy = buy; sell = sell; is_buy = refl; is_sell = refl; deep = leb-true asked.quantity depth told.0; is = told.1 }
 
-  is_deep : (buy sell : ℕ) → Deep asked buy sell → best_band asked ≡ Some (between buy sell)
-  is_deep buy sell deep = rw (deep.is_buy, deep.is_sell) (ap (λ t. cond t (Some (between buy sell)) None) (le-leb asked.quantity depth (omega (arith, deep.buys, deep.sells))))
+  is_deep : (buy sell : BestPrice) → Deep asked buy sell → best_band asked ≡ Some (between buy.price sell.price)
+  is_deep buy sell deep = rw (deep.is_buy, deep.is_sell) (ap (λ t. cond t (Some (between buy.price sell.price)) None) (le-leb asked.quantity (min buy.depth sell.depth) (omega (arith, deep.buys, deep.sells))))
 
-  deep_from : (band : Band) → best_band asked ≡ Some band → (buy : ℕ) × (sell : ℕ) × Deep asked buy sell × (between buy sell ≡ band)
+  deep_from : (band : Band) → best_band asked ≡ Some band → (buy : BestPrice) × (sell : BestPrice) × Deep asked buy sell × (between buy.price sell.price ≡ band)
   deep_from band is =
       let told = drawn asked.best_buy asked.best_sell band is in
       (told.buy, told.sell, record { is_buy = told.is_buy; is_sell = told.is_sell; buys = omega (arith, told.deep); sells = omega (arith, told.deep) }, told.is)
 
   not_deep : best_band asked ≡ None → NotDeep asked
-  not_deep none buy sell deep = no_band (between buy sell) (sym none ∙ is_deep buy sell deep)
+  not_deep none buy sell deep = let there = is_deep buy sell deep in cc
 
   none_best : NotDeep asked → (a : Option Band) → best_band asked ≡ a → best_band asked ≡ None
   none_best shallow None is = is
@@ -103,12 +106,12 @@ module _ (asked : Registration) where
 
   -- the first of the three that is a band decides
   abbrev choice : Option Band → Option ℕ → Option ℕ → Result Criterion RegistrationRefusal
-  choice best last reference = decided asked.price (or_else best (or_else (option_map (around LastTrade) last) (option_map (around Reference) reference)))
+  choice best last reference = decided asked.price (option_or best (option_or (option_map (around LastTrade) last) (option_map (around Reference) reference)))
 
   within_from : (criterion : Criterion) (a : Option Band) (l r : Option ℕ) → best_band asked ≡ a → asked.last_trade ≡ l → asked.reference ≡ r → choice a l r ≡ Ok criterion → Within asked criterion
   within_from criterion (Some band) l r ia il ir is =
       let deep = deep_from band ia in
-      let told = in_band (between deep.0 deep.1) asked.price criterion (ap (λ x. decided asked.price (Some x)) deep.3 ∙ is) in
+      let told = in_band (between deep.0.price deep.1.price) asked.price criterion (ap (λ x. decided asked.price (Some x)) deep.3 ∙ is) in
       subst (Within asked) told.2 (deep.0, deep.1, deep.2, told.0, told.1)
   within_from criterion None (Some last) r ia il ir is =
       let told = in_band (around LastTrade last) asked.price criterion is in
@@ -116,10 +119,10 @@ module _ (asked : Registration) where
   within_from criterion None None (Some reference) ia il ir is =
       let told = in_band (around Reference reference) asked.price criterion is in
       subst (Within asked) told.2 (reference, not_deep ia, il, ir, (told.0, told.1))
-  within_from criterion None None None ia il ir is = never_passed NoBasis criterion is
+  within_from criterion None None None ia il ir is = absurd cc
 
   from_within : (criterion : Criterion) → Within asked criterion → decided asked.price (first_band asked) ≡ Ok criterion
-  from_within BestPrices w = ap (λ a. choice a asked.last_trade asked.reference) (is_deep w.0 w.1 w.2) ∙ from_band (between w.0 w.1) asked.price w.3 w.4
+  from_within BestPrices w = ap (λ a. choice a asked.last_trade asked.reference) (is_deep w.0 w.1 w.2) ∙ from_band (between w.0.price w.1.price) asked.price w.3 w.4
   from_within LastTrade w =
       ap (λ a. choice a asked.last_trade asked.reference) (none_best w.1 (best_band asked) refl) ∙ ap (λ l. choice None l asked.reference) w.2 ∙ from_band (around LastTrade w.0) asked.price w.3.0 w.3.1
   from_within Reference w =

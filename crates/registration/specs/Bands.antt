@@ -1,6 +1,7 @@
 -- The bands that the criteria of a registration draw, a hundredfold, and the first that applies. Assumes nothing.
 use Rattle.std.specs.Prelude.{ℕ, ◌*◌, min, Bool, cond, ◌&&◌, Some, None, Option, nat_le}
-use Rattle.std.specs.Option.{option_map}
+use Rattle.std.specs.Option.{option_map, option_or}
+use Rattle.registration.specs.declared.registrations.BestPrice.{BestPrice}
 use Rattle.registration.specs.declared.registrations.Registration.{Registration}
 use Rattle.registration.specs.declared.bands.Band.{Band}
 use Rattle.registration.specs.declared.bands.Criterion.{Criterion}
@@ -19,22 +20,17 @@ abbrev pub between : ℕ → ℕ → Band
 between buy sell = record { criterion = BestPrices; low = buy * 89; high = sell * 111 }
 
 -- 1. both best prices, and a quantity at most the smaller depth
-abbrev pub band_of_best : ℕ → ℕ → Option ℕ → Option ℕ → Option Band
-band_of_best quantity depth None sell = None
-band_of_best quantity depth (Some buy) None = None
-band_of_best quantity depth (Some buy) (Some sell) = cond (nat_le quantity depth) (Some (between buy sell)) None
+abbrev pub band_of_best : ℕ → Option BestPrice → Option BestPrice → Option Band
+band_of_best quantity None sell = None
+band_of_best quantity (Some buy) None = None
+band_of_best quantity (Some buy) (Some sell) = cond (nat_le quantity (min buy.depth sell.depth)) (Some (between buy.price sell.price)) None
 
 abbrev pub best_band : Registration → Option Band
-best_band asked = band_of_best asked.quantity (min asked.buy_depth asked.sell_depth) asked.best_buy asked.best_sell
+best_band asked = band_of_best asked.quantity asked.best_buy asked.best_sell
 
--- a criterion that does not apply leaves it to the next
-abbrev pub or_else : Option Band → Option Band → Option Band
-or_else None next = next
-or_else (Some band) next = Some band
-
--- 2. else the last trade, 3. else the reference price
+-- 2. else the last trade, 3. else the reference price: a criterion that does not apply leaves it to the next
 abbrev pub first_band : Registration → Option Band
 first_band asked =
-    or_else (best_band asked) (
-    or_else (option_map (around LastTrade) asked.last_trade) (
+    option_or (best_band asked) (
+    option_or (option_map (around LastTrade) asked.last_trade) (
     option_map (around Reference) asked.reference))

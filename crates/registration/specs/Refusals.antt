@@ -1,22 +1,20 @@
 -- The number of each refusal of a registration. Assumes nothing.
 use Rattle.std.specs.Prelude.{ℕ, Result}
 use Rattle.session.specs.declared.judgements.PriceRefusal.{PriceRefusal}
-use Rattle.session.specs.declared.judgements.PriceRefusal.TheVariants as price
+use Rattle.session.specs.Judgements.{price_numbered}
 use Rattle.registration.specs.declared.refusals.RegistrationRefusal.{RegistrationRefusal}
-use Rattle.registration.specs.declared.refusals.RegistrationRefusal.TheVariants.{QuantityRange, PriceRange, OffTick, AboveScarcity, OutsideBand, NoBasis}
+use Rattle.registration.specs.declared.refusals.RegistrationRefusal.TheVariants.{QuantityRange, Price, AboveScarcity, OutsideBand, NoBasis}
 
 abbrev pub numbered : RegistrationRefusal → ℕ
 numbered QuantityRange = 4
-numbered PriceRange = 5
-numbered OffTick = 6
+numbered (Price cause) = price_numbered cause
 numbered AboveScarcity = 19
 numbered OutsideBand = 20
 numbered NoBasis = 21
 
 -- a price's refusal keeps its number
 abbrev pub of_price : PriceRefusal → RegistrationRefusal
-of_price price.PriceRange = PriceRange
-of_price price.OffTick = OffTick
+of_price cause = Price cause
 
 -- what judging answers: that it passes, or why not
 abbrev pub Judgement : Type 0

@@ -1,5 +1,7 @@
 -- The verdict on a registration, with its refusals in their order. Assumes nothing.
-use Rattle.std.specs.Prelude.{ℕ, Bool, cond, ◌&&◌, Some, None, Ok, Err, Option, Result, nat_le}
+use Rattle.std.specs.Prelude.{ℕ, Bool, cond, Some, None, Ok, Err, Option, Result, nat_le}
+use Rattle.std.specs.Option.{option_map}
+use Rattle.session.specs.Ranges.{within}
 use Rattle.session.specs.Judgements.{price_judged, given_judged, onward, passed_as}
 use Rattle.registration.specs.declared.registrations.Registration.{Registration}
 use Rattle.registration.specs.declared.bands.Band.{Band}
@@ -10,7 +12,7 @@ use Rattle.registration.specs.Refusals.{Judgement, of_price}
 use Rattle.registration.specs.Bands.{holds, first_band}
 
 abbrev pub is_quantity : ℕ → Bool
-is_quantity quantity = nat_le 1 quantity && nat_le quantity 1000000
+is_quantity quantity = within 1000000 quantity
 
 abbrev pub judged_quantity : ℕ → Judgement
 judged_quantity quantity = cond (is_quantity quantity) (Ok tt) (Err QuantityRange)
@@ -31,8 +33,8 @@ abbrev pub judged_registration : ℕ → ℕ → Registration → Judgement
 judged_registration tick scarcity asked =
     onward (judged_quantity asked.quantity) (
     onward (judged_price tick asked.price) (
-    onward (judged_given tick asked.best_buy) (
-    onward (judged_given tick asked.best_sell) (
+    onward (judged_given tick (option_map (λ best. best.price) asked.best_buy)) (
+    onward (judged_given tick (option_map (λ best. best.price) asked.best_sell)) (
     onward (judged_given tick asked.last_trade) (
     onward (judged_given tick asked.reference) (
     judged_scarcity scarcity asked.price))))))

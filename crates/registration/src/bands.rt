@@ -1,5 +1,6 @@
 // The criteria of a registration, and the bands that they draw.
 ghost use Rattle.std.specs.Prelude.{◌≡◌};
+ghost use Rattle.std.specs.Option.{option_map};
 ghost use Rattle.registration.specs.Criteria.{number_of};
 ghost use Rattle.registration.specs.Bands.{holds, around, best_band, first_band};
 
@@ -16,12 +17,12 @@ pub enum Criterion {
     Reference = 3,
 }
 
-impl Criterion {
-    /// The criterion's number.
-    pub fn number(self) -> u8
-        ensures { result ≡ number_of self }
-    {
-        self as u8
+/// The criterion's number.
+impl From<Criterion> for u8 {
+    ghost from_gives = { λ criterion number. number ≡ number_of criterion };
+
+    fn from(criterion: Criterion) -> u8 {
+        criterion as u8
     }
 }
 
@@ -45,52 +46,48 @@ pub(crate) struct Band {
 }
 
 impl Band {
-    /// The band around one price.
-    fn around(criterion: Criterion, price: u32) -> Band
-        ensures { result ≡ around criterion price }
+    /// The band around a single price, if it is there.
+    fn around(criterion: Criterion, price: Option<u32>) -> Option<Band>
+        ensures { result ≡ option_map (around criterion) price }
     {
-        Band {
+        price.map(|price| Band {
             criterion,
             low: u64::from(price) * SINGLE_LOW,
             high: u64::from(price) * SINGLE_HIGH,
-        }
+        })
     }
 
     /// Whether a price lies in the band.
     pub(crate) fn holds(self, price: u32) -> bool
         ensures { result ≡ holds self price }
     {
-        let whole = u64::from(price) * WHOLE;
-        self.low <= whole && whole <= self.high
+        (self.low..=self.high).contains(&(u64::from(price) * WHOLE))
     }
 }
 
-/// The band of the best prices, if there are both and they are deep enough.
-fn best_band(asked: Registration) -> Option<Band>
-    ensures { result ≡ best_band asked }
-{
-    let buy = asked.best_buy?;
-    let sell = asked.best_sell?;
-    if asked.quantity > asked.buy_depth.min(asked.sell_depth) {
-        return None;
+impl Registration {
+    /// The band of the best prices, if there are both and they are deep enough.
+    fn best_band(self) -> Option<Band>
+        ensures { result ≡ best_band self }
+    {
+        let buy = self.best_buy?;
+        let sell = self.best_sell?;
+        if self.quantity > buy.depth.min(sell.depth) {
+            return None;
+        }
+        Some(Band {
+            criterion: Criterion::BestPrices,
+            low: u64::from(buy.price) * BEST_LOW,
+            high: u64::from(sell.price) * BEST_HIGH,
+        })
     }
-    Some(Band {
-        criterion: Criterion::BestPrices,
-        low: u64::from(buy) * BEST_LOW,
-        high: u64::from(sell) * BEST_HIGH,
-    })
-}
 
-/// The band of the first criterion that applies.
-pub(crate) fn first_band(asked: Registration) -> Option<Band>
-    ensures { result ≡ first_band asked }
-{
-    if let Some(band) = best_band(asked) {
-        return Some(band);
+    /// The band of the first criterion that applies.
+    pub(crate) fn first_band(self) -> Option<Band>
+        ensures { result ≡ first_band self }
+    {
+        self.best_band()
+            .or(Band::around(Criterion::LastTrade, self.last_trade))
+            .or(Band::around(Criterion::Reference, self.reference))
     }
-    if let Some(last) = asked.last_trade {
-        return Some(Band::around(Criterion::LastTrade, last));
-    }
-    let reference = asked.reference?;
-    Some(Band::around(Criterion::Reference, reference))
 }

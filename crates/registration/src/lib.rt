@@ -8,5 +8,5 @@ mod verdicts;
 
 pub use bands::Criterion;
 pub use refusals::RegistrationRefusal;
-pub use registrations::Registration;
+pub use registrations::{BestPrice, Registration};
 pub use verdicts::{MAX_QUANTITY, verdict};

@@ -4,39 +4,40 @@ ghost use Rattle.registration.specs.Refusals.{numbered, of_price};
 
 use session::PriceRefusal;
 
-/// A refusal; each case carries its number.
+/// A refusal, which keeps the cause of a refused price.
 #[derive(Clone, Copy, Debug, PartialEq, Eq)]
 pub enum RegistrationRefusal {
     /// The quantity is not 1 to 1,000,000.
-    QuantityRange = 4,
-    /// A price is not 1 to 10,000,000.
-    PriceRange = 5,
-    /// A price is no whole multiple of the tick.
-    OffTick = 6,
+    QuantityRange,
+    /// A price is refused.
+    Price(PriceRefusal),
     /// The price to register is above the scarcity price.
-    AboveScarcity = 19,
+    AboveScarcity,
     /// The price to register is outside its band.
-    OutsideBand = 20,
+    OutsideBand,
     /// Nothing is given that a band could be drawn around.
-    NoBasis = 21,
-}
-
-impl RegistrationRefusal {
-    /// The refusal's number.
-    pub fn code(self) -> u8
-        ensures { result ≡ numbered self }
-    {
-        self as u8
-    }
+    NoBasis,
 }
 
 impl From<PriceRefusal> for RegistrationRefusal {
     ghost from_gives = { λ cause why. why ≡ of_price cause };
 
     fn from(cause: PriceRefusal) -> RegistrationRefusal {
-        match cause {
-            PriceRefusal::PriceRange => RegistrationRefusal::PriceRange,
-            PriceRefusal::OffTick => RegistrationRefusal::OffTick,
+        RegistrationRefusal::Price(cause)
+    }
+}
+
+/// The refusal's number.
+impl From<RegistrationRefusal> for u8 {
+    ghost from_gives = { λ why code. code ≡ numbered why };
+
+    fn from(why: RegistrationRefusal) -> u8 {
+        match why {
+            RegistrationRefusal::QuantityRange => 4,
+            RegistrationRefusal::Price(cause) => u8::from(cause),
+            RegistrationRefusal::AboveScarcity => 19,
+            RegistrationRefusal::OutsideBand => 20,
+            RegistrationRefusal::NoBasis => 21,
         }
     }
 }

@@ -3,7 +3,7 @@ ghost use Rattle.std.specs.Prelude.{◌≡◌};
 ghost use Rattle.registration.specs.Acceptance.{Exactly};
 ghost use Rattle.registration.specs.Verdicts.{judged_registration, decided, verdict_answer};
 
-use crate::bands::{Band, Criterion, first_band};
+use crate::bands::{Band, Criterion};
 use crate::refusals::RegistrationRefusal;
 use crate::registrations::Registration;
 use session::Session;
@@ -15,12 +15,12 @@ pub const MAX_QUANTITY: u32 = 1_000_000;
 fn judge(session: Session, asked: Registration) -> Result<(), RegistrationRefusal>
     ensures { result ≡ judged_registration session.tick session.scarcity asked }
 {
-    if asked.quantity == 0 || asked.quantity > MAX_QUANTITY {
+    if !(1..=MAX_QUANTITY).contains(&asked.quantity) {
         return Err(RegistrationRefusal::QuantityRange);
     }
     session.judge(asked.price)?;
-    session.judge_given(asked.best_buy)?;
-    session.judge_given(asked.best_sell)?;
+    session.judge_given(asked.best_buy.map(|best| best.price))?;
+    session.judge_given(asked.best_sell.map(|best| best.price))?;
     session.judge_given(asked.last_trade)?;
     session.judge_given(asked.reference)?;
     if asked.price > session.scarcity {
@@ -46,5 +46,5 @@ pub fn verdict(session: Session, asked: Registration) -> Result<Criterion, Regis
     ensures exactly { Exactly session.tick session.scarcity asked result }
 {
     judge(session, asked)?;
-    decide(asked.price, first_band(asked))
+    decide(asked.price, asked.first_band())
 }

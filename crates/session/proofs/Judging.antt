@@ -1,13 +1,13 @@
 -- What a judged price answers, by its range and the tick. Assumes nothing.
-use Rattle.std.proofs.Common.{◌≡◌, ℕ, ◌*◌, ◌/◌, ◌%◌, ◌≤◌, Bool, true, false, cond, IfSome, Some, None, Ok, Err, Option, Result, sym, refl, ap, ◌∙◌, subst, ⊎_elim, div-add-mod', arith}
+use Rattle.std.proofs.Common.{◌≡◌, ℕ, ◌*◌, ◌/◌, ◌%◌, ◌≤◌, Bool, true, false, leb, cond, IfSome, Some, None, Ok, Err, Option, Result, sym, refl, ap, ◌∙◌, subst, ⊎_elim, div-add-mod', arith}
 use native.Mathlib.Nat.{mul-mod_left}
-use Rattle.std.proofs.lemmas.Bool.{le-leb, lt-leb, eq-eqb, ne_eqb, cases_lt, cases_eq}
+use Rattle.std.proofs.lemmas.Bool.{and_parts, and_from, leb-true, le-leb, lt-leb, eq-eqb, ne_eqb, cases_lt, cases_eq}
 use Rattle.session.specs.declared.judgements.PriceRefusal.{PriceRefusal}
 use Rattle.session.specs.declared.judgements.PriceRefusal.TheVariants.{PriceRange, OffTick}
-use Rattle.session.specs.Ranges.{InPrice}
+use Rattle.session.specs.Ranges.{Within, within, InPrice}
 use Rattle.session.specs.Judgements.{price_judged, Judged, OnTick, passed, given_judged, onward, passed_as}
 
-pub range_judged : (tick price : ℕ) → (InPrice price → ⊥) → price_judged tick price ≡ Err PriceRange
+range_judged : (tick price : ℕ) → (InPrice price → ⊥) → price_judged tick price ≡ Err PriceRange
 unfolding price_judged
 range_judged tick price out =
     ⊎_elim (λ low. rw (lt-leb 1 price low) refl)
@@ -15,18 +15,18 @@ range_judged tick price out =
     (cases_lt price 1)
 
 module _ (tick price : ℕ) (low : 1 ≤ price) (high : price ≤ 10000000) where
-  pub off_judged : (price % tick ≡ 0 → ⊥) → price_judged tick price ≡ Err OffTick
+  off_judged : (price % tick ≡ 0 → ⊥) → price_judged tick price ≡ Err OffTick
   unfolding price_judged
   off_judged off = rw (le-leb 1 price low, le-leb price 10000000 high, ne_eqb (price % tick) 0 off) refl
 
-  pub ticks_judged : price % tick ≡ 0 → price_judged tick price ≡ Ok (price / tick)
+  ticks_judged : price % tick ≡ 0 → price_judged tick price ≡ Ok (price / tick)
   unfolding price_judged
   ticks_judged on = rw (le-leb 1 price low, le-leb price 10000000 high, eq-eqb (price % tick) 0 on) refl
 
-pub no_multiple : (tick price multiples : ℕ) → (price % tick ≡ 0 → ⊥) → price ≡ multiples * tick → ⊥
+no_multiple : (tick price multiples : ℕ) → (price % tick ≡ 0 → ⊥) → price ≡ multiples * tick → ⊥
 no_multiple tick price multiples off is = off (ap (λ p. p % tick) is ∙ mul-mod_left multiples tick)
 
-pub whole_ticks : (tick price : ℕ) → price % tick ≡ 0 → price ≡ price / tick * tick
+whole_ticks : (tick price : ℕ) → price % tick ≡ 0 → price ≡ price / tick * tick
 whole_ticks tick price on = omega (arith, div-add-mod' price tick)
 
 -- Every price is judged in one of three ways.
@@ -49,26 +49,31 @@ module _ (tick price : ℕ) where
       (λ some. ⊎_elim (λ high. out_of_range (λ legal. omega (arith, high, legal.1))) (λ few. in_range (some, few)) (cases_lt 10000000 price))
       (cases_lt price 1)
 
+-- a test of a range, and the range
+module _ (most n : ℕ) where
+  pub within_so : within most n ≡ true → Within most n
+  within_so t = let both = and_parts (leb 1 n) (leb n most) t in (leb-true 1 n both.0, leb-true n most both.1)
+
+  pub so_within : Within most n → within most n ≡ true
+  so_within range = and_from (leb 1 n) (leb n most) (le-leb 1 n range.0) (le-leb n most range.1)
+
 -- A judgement that passes passes in each of its parts.
 module _ {E : Type 0} where
-  pub never_passed : {P Y : Type 0} (why : E) (y : Y) → ◌≡◌ {A = Result Y E} (Err why) (Ok y) → P
-  never_passed why y is = let never : ◌≡◌ {A = ℕ} 0 1 = cc in absurd (omega arith)
-
   pub both_passed : {Y : Type 0} (a : Result (Unit {0}) E) (b : Result Y E) (y : Y) → onward a b ≡ Ok y → (a ≡ Ok tt) × (b ≡ Ok y)
   both_passed (Ok x) b y is = (refl, is)
-  both_passed (Err why) b y is = never_passed why y is
+  both_passed (Err why) b y is = absurd cc
 
   pub passed_both : {Y : Type 0} (a : Result (Unit {0}) E) (b : Result Y E) (y : Y) → a ≡ Ok tt → b ≡ Ok y → onward a b ≡ Ok y
   passed_both a b y first second = ap (λ v. onward v b) first ∙ second
 
   pub test_passed : {Y : Type 0} (t : Bool) (x y : Y) (why : E) → ◌≡◌ {A = Result Y E} (cond {A = Result Y E} t (Ok x) (Err why)) (Ok y) → (t ≡ true) × (◌≡◌ {A = Result Y E} (Ok x) (Ok y))
   test_passed true x y why is = (refl, is)
-  test_passed false x y why is = never_passed why y is
+  test_passed false x y why is = absurd cc
 
   -- a price that passes is in range and on the tick
   on_tick : (called : PriceRefusal → E) (tick price : ℕ) (r : Result ℕ PriceRefusal) → Judged tick price r → passed_as called r ≡ Ok tt → OnTick tick price
   on_tick called tick price (Ok ticks) told is = record { legal = told.0; ticks = ticks; exact = told.1 }
-  on_tick called tick price (Err why) told is = never_passed (called why) tt is
+  on_tick called tick price (Err why) told is = absurd cc
 
   module _ (called : PriceRefusal → E) (tick price : ℕ) where
     pub price_on_tick : passed_as called (price_judged tick price) ≡ Ok tt → OnTick tick price

@@ -13,25 +13,26 @@ pub enum PriceRefusal {
     OffTick = 6,
 }
 
-impl PriceRefusal {
-    /// The refusal's number.
-    pub fn code(self) -> u8
-        ensures { result ≡ price_numbered self }
-    {
-        self as u8
+/// The refusal's number.
+impl From<PriceRefusal> for u8 {
+    ghost from_gives = { λ why code. code ≡ price_numbered why };
+
+    fn from(why: PriceRefusal) -> u8 {
+        why as u8
     }
 }
 
 impl Session {
     /// A price in ticks, refused if it is out of range, then if it is off the tick.
+    #[tactic(auto, unfolding(crate::specs::Judgements::price_judged))]
     pub fn judge(self, price: u32) -> Result<u32, PriceRefusal>
         ensures answer { result ≡ price_judged self.tick price }
         ensures judged { Judged self.tick price result }
     {
-        if price == 0 || price > MAX_PRICE {
+        if !(1..=MAX_PRICE).contains(&price) {
             return Err(PriceRefusal::PriceRange);
         }
-        if price % self.tick != 0 {
+        if !price.is_multiple_of(self.tick) {
             return Err(PriceRefusal::OffTick);
         }
         Ok(price / self.tick)

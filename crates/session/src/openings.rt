@@ -10,10 +10,7 @@ impl Session {
     pub fn open(tick: u32, scarcity: u32) -> Result<Session, SessionRefusal>
         ensures { Opened tick scarcity result }
     {
-        if tick == 0 || tick > MAX_TICK {
-            return Err(SessionRefusal::SessionRange);
-        }
-        if scarcity == 0 || scarcity > MAX_PRICE {
+        if !(1..=MAX_TICK).contains(&tick) || !(1..=MAX_PRICE).contains(&scarcity) {
             return Err(SessionRefusal::SessionRange);
         }
         Ok(Session { tick, scarcity })

@@ -4,39 +4,40 @@ ghost use Rattle.session.specs.Refusals.{numbered, of_price};
 
 use crate::judgements::PriceRefusal;
 
-/// A refusal; each case carries its number.
+/// A refusal, which keeps the cause of a refused price.
 #[derive(Clone, Copy, Debug, PartialEq, Eq)]
 pub enum SessionRefusal {
     /// The tick or the scarcity price is out of range.
-    SessionRange = 3,
+    SessionRange,
     /// A quantity is out of range.
-    QuantityRange = 4,
-    /// A price is out of range.
-    PriceRange = 5,
-    /// A price is no whole multiple of the tick.
-    OffTick = 6,
+    QuantityRange,
+    /// A price is refused.
+    Price(PriceRefusal),
     /// No admissible price has volume above 0.
-    NoVolume = 11,
+    NoVolume,
     /// The register has fewer places than there are trades.
-    RegisterShort = 12,
+    RegisterShort,
 }
 
 impl From<PriceRefusal> for SessionRefusal {
     ghost from_gives = { λ cause why. why ≡ of_price cause };
 
     fn from(cause: PriceRefusal) -> SessionRefusal {
-        match cause {
-            PriceRefusal::PriceRange => SessionRefusal::PriceRange,
-            PriceRefusal::OffTick => SessionRefusal::OffTick,
-        }
+        SessionRefusal::Price(cause)
     }
 }
 
-impl SessionRefusal {
-    /// The refusal's number.
-    pub fn code(self) -> u8
-        ensures { result ≡ numbered self }
-    {
-        self as u8
+/// The refusal's number.
+impl From<SessionRefusal> for u8 {
+    ghost from_gives = { λ why code. code ≡ numbered why };
+
+    fn from(why: SessionRefusal) -> u8 {
+        match why {
+            SessionRefusal::SessionRange => 3,
+            SessionRefusal::QuantityRange => 4,
+            SessionRefusal::Price(cause) => u8::from(cause),
+            SessionRefusal::NoVolume => 11,
+            SessionRefusal::RegisterShort => 12,
+        }
     }
 }

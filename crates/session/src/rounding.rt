@@ -10,9 +10,6 @@ pub fn rounded(unit: u32, sum: u64, weight: u64) -> Option<u64>
     ensures nearest { IfSome result (λ price. Nearest unit sum weight price) }
 {
     let whole = u128::from(unit) * u128::from(weight);
-    if whole == 0 {
-        return None;
-    }
-    let multiples = (2 * u128::from(sum) + whole) / (2 * whole);
+    let multiples = (2 * u128::from(sum) + whole).checked_div(2 * whole)?;
     u64::try_from(multiples * u128::from(unit)).ok()
 }

@@ -3,9 +3,8 @@ use Rattle.std.proofs.Common.{◌≡◌, ℕ, ◌+◌, ◌≤◌, Bool, true, fa
 use Rattle.std.proofs.lemmas.Bool.{cond_both}
 use Rattle.note.specs.declared.trades.Trade.{Trade}
 use Rattle.session.specs.declared.refusals.SessionRefusal.{SessionRefusal}
-use Rattle.session.specs.declared.refusals.SessionRefusal.TheVariants.{SessionRange, QuantityRange, PriceRange, OffTick, NoVolume, RegisterShort}
+use Rattle.session.specs.declared.refusals.SessionRefusal.TheVariants.{SessionRange, QuantityRange, Price, NoVolume, RegisterShort}
 use Rattle.session.specs.declared.judgements.PriceRefusal.{PriceRefusal}
-use Rattle.session.specs.declared.judgements.PriceRefusal.TheVariants.{PriceRange as Price-as-PriceRange, OffTick as Price-as-OffTick}
 use Rattle.session.specs.Judgements.{price_judged}
 use Rattle.session.specs.Openings.{ceiling}
 use Rattle.book.specs.declared.orders.Side.{Side}
@@ -51,8 +50,7 @@ module _ (tick scarcity : ℕ) (m : Book) (rises : rising 0 m.orders m.last ≡ 
   session_refuses : (why : SessionRefusal) → (why ≡ NoVolume → ⊥) → IdleFor m tick scarcity why
   session_refuses SessionRange ne = tt
   session_refuses QuantityRange ne = tt
-  session_refuses PriceRange ne = tt
-  session_refuses OffTick ne = tt
+  session_refuses (Price cause) ne = tt
   session_refuses NoVolume ne = absurd (ne refl)
   session_refuses RegisterShort ne = tt
 
@@ -103,8 +101,7 @@ module _ (tick scarcity : ℕ) (m : Book) (rises : rising 0 m.orders m.last ≡ 
 
 price_volume : (r : Result ℕ PriceRefusal) (why : SessionRefusal) → price_limit r ≡ Err why → why ≡ NoVolume → ⊥
 price_volume (Ok limit) why e v = let z : ◌≡◌ {A = ℕ} 0 1 = cc in omega arith
-price_volume (Err Price-as-PriceRange) why e v = let z : ◌≡◌ {A = ℕ} 0 1 = cc in omega arith
-price_volume (Err Price-as-OffTick) why e v = let z : ◌≡◌ {A = ℕ} 0 1 = cc in omega arith
+price_volume (Err cause) why e v = let z : ◌≡◌ {A = ℕ} 0 1 = cc in omega arith
 
 limit_volume : (tick quantity price : ℕ) (why : SessionRefusal) → entry_limit tick quantity price ≡ Err why → why ≡ NoVolume → ⊥
 unfolding entry_limit

@@ -2,7 +2,7 @@
 use Rattle.std.specs.Prelude.{◌≡◌, ℕ, ◌+◌, ◌-◌, ◌*◌, cond, List, [], ◌∷◌, length, Some, None, Option, ◌==◌}
 use Rattle.note.specs.declared.trades.Trade.{Trade}
 use Rattle.session.specs.declared.refusals.SessionRefusal.{SessionRefusal}
-use Rattle.session.specs.declared.refusals.SessionRefusal.TheVariants.{SessionRange, QuantityRange, PriceRange, OffTick, NoVolume, RegisterShort}
+use Rattle.session.specs.declared.refusals.SessionRefusal.TheVariants.{SessionRange, QuantityRange, Price, NoVolume, RegisterShort}
 use Rattle.book.specs.declared.orders.Side.{Side}
 use Rattle.book.specs.Meaning.{Order, Book}
 use Rattle.rules.specs.Schedule.{Admissible, offered}
@@ -32,8 +32,7 @@ pub record Filled (b : Book) (tick scarcity : ℕ) (told : Indication) (ts : Lis
 abbrev pub IdleFor : Book → ℕ → ℕ → SessionRefusal → Type 0
 IdleFor b tick scarcity SessionRange = Unit {0}
 IdleFor b tick scarcity QuantityRange = Unit {0}
-IdleFor b tick scarcity PriceRange = Unit {0}
-IdleFor b tick scarcity OffTick = Unit {0}
+IdleFor b tick scarcity (Price cause) = Unit {0}
 IdleFor b tick scarcity NoVolume = NoRivalAbove b.orders (offered b tick scarcity) 0
 IdleFor b tick scarcity RegisterShort = Unit {0}
 

@@ -45,7 +45,7 @@ impl Refusal {
     {
         match self {
             Refusal::Book(cause) => cause.code(),
-            Refusal::Session(cause) => cause.code(),
+            Refusal::Session(cause) => u8::from(cause),
         }
     }
 

@@ -1,8 +1,15 @@
-use Rattle.std.proofs.Common.{arith}
-use Rattle.closing.proofs.Closed.{closes}
+use Rattle.std.proofs.Common.{◌≡◌, rules, arith}
+use Rattle.std.specs.Option.{ok_or}
+use Rattle.closing.specs.declared.refusals.ClosingRefusal.TheVariants.{NoCriterion}
+use Rattle.closing.specs.Criteria.{first_price}
+use Rattle.closing.proofs.Closed.{grounds, priced}
 use Rattle.closing.proofs.closings.closing_price.Goals as goal
 
-pub returns : goal.returns
-returns c =
-    let done = closes c.args.session.tick c.args.inputs (omega arith) (omega arith) c.in_ok-judge_inputs.ensures c.first_price.result c.ok_or.result c.first_price.ensures c.ok_or.ensures.value in
-    record { answer = done.answer; grounds = done.grounds; priced = done.priced }
+first : (c : goal.After-ok_or) → c.ok_or.result ≡ ok_or (first_price c.args.session.tick c.args.inputs) NoCriterion
+first c = search rules
+
+pub returns-clause-grounds : goal.returns-clause-grounds
+returns-clause-grounds c = grounds c.args.session.tick c.args.inputs (omega arith) (omega arith) c.in_ok-judged.ensures.answer c.ok_or.result (first c)
+
+pub returns-clause-priced : goal.returns-clause-priced
+returns-clause-priced c = priced c.args.session.tick c.args.inputs (omega arith) (omega arith) c.in_ok-judged.ensures.answer c.ok_or.result (first c)

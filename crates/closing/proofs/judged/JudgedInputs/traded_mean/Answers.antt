@@ -1,14 +1,13 @@
 use Rattle.std.proofs.Common.{arith}
-use Rattle.closing.proofs.Legal.{legal}
 use Rattle.closing.proofs.Totals.{trades_fit}
-use Rattle.closing.proofs.criteria.traded_mean.Goals as goal
+use Rattle.closing.proofs.judged.JudgedInputs.traded_mean.Goals as goal
 
 pub total_of-totals-requires : goal.total_of-totals-requires
 total_of-totals-requires c =
-    let fit = trades_fit c.args.session.tick c.args.inputs (legal c.args.session.tick c.args.inputs c.requires) in
+    let fit = trades_fit c.args.self in
     record { worth_fits = omega (arith, fit.below, fit.few); contracts_fit = omega (arith, fit.few) }
 
 pub mean-requires : goal.mean-requires
 mean-requires c =
-    let fit = trades_fit c.args.session.tick c.args.inputs (legal c.args.session.tick c.args.inputs c.requires) in
+    let fit = trades_fit c.args.self in
     record { weighed = omega (arith, fit.some); priced = omega (arith, fit.below) }
