@@ -20,12 +20,10 @@ impl<'a> Field<'a> {
         ensures exact { is_number self.entry.text.now ≡ true → (result ≡ decimal self.entry.text.now) × (result < 1000000000) }
         ensures capped { result ≡ min 4294967295 (decimal self.entry.text.now) }
     {
-        let mut value = 0u32;
-        for digit in self.text {
-            value = value
+        self.text.iter().fold(0, |value, digit| {
+            value
                 .saturating_mul(10)
-                .saturating_add(u32::from(digit.saturating_sub(ZERO)));
-        }
-        value
+                .saturating_add(u32::from(digit.saturating_sub(ZERO)))
+        })
     }
 }

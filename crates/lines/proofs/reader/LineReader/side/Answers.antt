@@ -1,5 +1,5 @@
-use Rattle.std.proofs.Common.{◌∷◌, arith}
-use Rattle.lines.specs.declared.kinds.SideLetter.TheVariants.{B, S}
+use Rattle.std.proofs.Common.{◌∷◌, refl, arith}
+use Rattle.book.specs.declared.orders.Side.TheVariants.{Buy, Sell}
 use Rattle.lines.specs.Steps.{side}
 use Rattle.lines.proofs.Halting.{no_side}
 use Rattle.lines.proofs.Taking.{side_none, side_some}
@@ -17,19 +17,16 @@ invariant_of-self c = record { inside = omega (arith, c.in_ok-letter.ensures.0) 
 
 pub returns-in_err-letter : goal.returns-in_err-letter
 returns-in_err-letter c =
-    rw c.from_residual-in_err-letter.ensures (side_none c.in_ok-pass.ensures (no_side (λ inside. absurd (omega (arith, c.in_err-letter.ensures)))))
+    rw c.from_residual-in_err-letter.ensures (side_none c.in_ok-pass.ensures (no_side _ (λ next. omega (arith, c.in_err-letter.ensures, next.0)) (λ next. omega (arith, c.in_err-letter.ensures, next.0))))
 
 pub returns-in_default : goal.returns-in_default
 returns-in_default c =
     let is = c.in_ok-letter.ensures.1 in
-    side_none c.in_ok-pass.ensures (no_side (λ inside. (λ e. omega arith, λ e. omega arith)))
+    side_none c.in_ok-pass.ensures (no_side _ (λ next. omega (arith, is, next.1)) (λ next. omega (arith, is, next.1)))
 
 pub returns : goal.returns
 returns c =
-    let space = c.in_ok-pass.ensures in
-    let letter = c.in_ok-letter.letter in
-    let is = c.in_ok-letter.ensures in
     elim c.match-letter.branch [
-      | in-B w ↦ side_some space B letter is.0 is.1 w.in-B.is w.side-is
-      | in-S w ↦ side_some space S letter is.0 is.1 w.in-S.is w.side-is
+      | in-B w ↦ side_some c.in_ok-pass.ensures _ Buy _ c.in_ok-letter.ensures w.in-B.is w.side-is refl refl
+      | in-S w ↦ side_some c.in_ok-pass.ensures _ Sell _ c.in_ok-letter.ensures w.in-S.is w.side-is refl refl
     ]
