@@ -10,7 +10,7 @@ use Rattle.book.specs.declared.orders.Side.TheVariants.{Buy, Sell}
 use Rattle.lines.specs.Digits.{is_number}
 use Rattle.lines.specs.Forms.{Message, uncrossing, letter_of, written, Legal, IsLine}
 use Rattle.lines.specs.Reading.{line_length, next_start, part, FieldAt, Refused}
-use Rattle.lines.specs.Steps.{Part, byte, side, number, Fits, letter, left, Unended, Moved, Halted, Next}
+use Rattle.lines.specs.Steps.{Part, byte, side, number, Fits, letter, left, Unended, Moved, Halted, Next, NumberAt}
 use Rattle.lines.proofs.Lengths.{EndsLine, unended_none, unended_line}
 use Rattle.lines.proofs.Numbering.{number_parts, number_front}
 use Rattle.lines.proofs.Fitting.{fill, overlap, line_kind, line_ends, same_message}
@@ -21,17 +21,10 @@ pub moved_place : {r s : LineReader} {read : List ℕ} → Moved r s read → s.
 moved_place {r} {s} {read} m =
     omega (arith, r.inside, s.inside, ap length m.same, ap length m.over, length-append read (left s), length-drop r.position r.feed.now, length-drop s.position s.feed.now)
 
--- one byte
-pub moved_byte : (r s : LineReader) (b : ℕ) → Next r (Some b) → s.feed.now ≡ r.feed.now → s.position ≡ r.position + 1 → Moved r s (b ∷ [])
-moved_byte r s b next same on =
-    record {
-      same = same;
-      over = drop_more r.feed.now r.position 0 next.0 ∙ ap (λ x. x ∷ drop (r.position + 1) r.feed.now) next.1 ∙ ap (λ n. b ∷ drop n r.feed.now) (sym on) ∙ ap (λ f. b ∷ drop s.position f) (sym same);
-    }
-
--- a field of the feed that was left and of the place that was reached
-pub moved_field : {r s : LineReader} {f : Field} {read : List ℕ} {p q : ℕ} → Moved r s read → p ≡ q → FieldAt s.feed.now p f → FieldAt r.feed.now q f
-moved_field {r} {s} {f} {read} {p} {q} m e h = subst (λ x. FieldAt x q f) m.same (subst (λ x. FieldAt s.feed.now x f) e h)
+-- a number of the feed that was left and of the place that was reached
+pub moved_number : {r s : LineReader} {f : Field} {read : List ℕ} {p q : ℕ} → Moved r s read → p ≡ q → NumberAt s p f → NumberAt r q f
+moved_number {r} {s} {f} {read} {p} {q} m e h =
+    record { number = h.number; stands = subst (λ x. FieldAt x q f) m.same (subst (λ x. FieldAt s.feed.now x f) e h.stands) }
 
 -- one move and then another
 pub moved_join : {r s t : LineReader} {xs ys : List ℕ} → Moved r s xs → Moved s t ys → Moved r t (xs ++ ys)
@@ -44,7 +37,7 @@ halted_after {P} {Q} {r} {s} {t} {read} m step h =
     record { read = read ++ h.read; moved = moved_join m h.moved; stuck = stuck_after (subst (Step P Q read) h.moved.over step) h.stuck }
 
 -- it stops where it stands
-pub halted_here : {P : List ℕ → Type 0} (r : LineReader) → (more : List ℕ) × P more → ((b : ℕ) → Next r (Some b) → (more : List ℕ) → P (b ∷ more) → ⊥) → Halted P r r
+halted_here : {P : List ℕ → Type 0} (r : LineReader) → (more : List ℕ) × P more → ((b : ℕ) → Next r (Some b) → (more : List ℕ) → P (b ∷ more) → ⊥) → Halted P r r
 halted_here {P} r could cannot =
     record {
       read = [];

@@ -10,12 +10,12 @@ use Rattle.lines.specs.Reading.{line_length}
 use Rattle.lines.specs.Steps.{Unended}
 
 -- a line ends at a line end ..
-pub length_ended : (b : ℕ) (bs : List ℕ) → b ≡ 10 → line_length (b ∷ bs) ≡ 1
+length_ended : (b : ℕ) (bs : List ℕ) → b ≡ 10 → line_length (b ∷ bs) ≡ 1
 unfolding line_length
 length_ended b bs e = cond-true (eqb b 10) 1 (suc (line_length bs)) (eq-eqb b 10 e)
 
 -- .. and goes on at any other byte
-pub length_more : (b : ℕ) (bs : List ℕ) → (b ≡ 10 → ⊥) → line_length (b ∷ bs) ≡ suc (line_length bs)
+length_more : (b : ℕ) (bs : List ℕ) → (b ≡ 10 → ⊥) → line_length (b ∷ bs) ≡ suc (line_length bs)
 unfolding line_length
 length_more b bs h = cond-false (eqb b 10) 1 (suc (line_length bs)) (ne_eqb b 10 h)
 

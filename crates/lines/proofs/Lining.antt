@@ -5,16 +5,16 @@ use Rattle.book.specs.declared.orders.Side.{Side}
 use Rattle.book.specs.declared.orders.Side.TheVariants.{Buy, Sell}
 use Rattle.lines.specs.declared.fields.Field.{Field}
 use Rattle.lines.specs.declared.kinds.Line.{Line}
-use Rattle.lines.specs.declared.kinds.Line.TheVariants.{Opening, Entry, Cut, Withdrawal, Uncrossing}
+use Rattle.lines.specs.declared.kinds.Line.TheVariants.{Opening, Entry, Cut, Withdrawal}
 use Rattle.lines.specs.declared.reader.LineReader.{LineReader}
 use Rattle.lines.specs.Forms.{letter_of, end, IsLine}
 use Rattle.lines.specs.Kinds.{Kind}
 use Rattle.lines.specs.Kinds as kind
-use Rattle.lines.specs.Reading.{line_length, next_start}
-use Rattle.lines.specs.Steps.{side, byte, Fits, behind, letter, left, Moved, Halted, Next, TookSide, TookLastField, TookFields, TookForm, TookLine}
+use Rattle.lines.specs.Reading.{line_length, next_start, digits, past}
+use Rattle.lines.specs.Steps.{side, byte, Fits, behind, letter, left, Moved, Halted, Next, NumberAt, TookSide, TookLastField, TookFields, TookForm, TookLine}
 use Rattle.lines.proofs.Lengths.{length_none, length_some, length_within}
 use Rattle.lines.proofs.Fitting.{line_kind, kind_line, letter_no_end, same_kind}
-use Rattle.lines.proofs.Halting.{moved_field, moved_join, moved_place, halted_after}
+use Rattle.lines.proofs.Halting.{moved_number, moved_join, moved_place, halted_after}
 use Rattle.lines.proofs.Stepping.{step_byte, step_side, step_join}
 
 one_byte : (s : Side) → length (letter_of s) ≡ 1
@@ -30,25 +30,31 @@ pub no_fields : {r s t : LineReader} (which : Side) → TookSide r s (Some which
 no_fields {r} {s} {t} which m h =
     halted_after m (step_join (step_byte 32 (side ∷ behind kind.Cut) (letter_of which ++ left s) (λ e. omega arith)) (step_side which (behind kind.Cut) (left s))) h
 
+-- numbers of the feed that was left are those of a line that was read further
+module _ {r s : LineReader} {read : List ℕ} (so_far : Moved r s read) (ahead : ℕ) (is : length read + 1 ≡ ahead) where
+  first_at : {f : Field} → NumberAt s (s.position + 1) f → NumberAt r (r.position + ahead) f
+  first_at n = moved_number so_far (omega (arith, moved_place so_far, is)) n
+
+  one_of : {t : LineReader} (f : Field) → TookLastField s t (Some f) → Moved r t (read ++ 32 ∷ (digits f ++ end)) × NumberAt r (r.position + ahead) f
+  one_of f (m, n) = (moved_join so_far m, first_at n)
+
+  two_of : {t : LineReader} (f g : Field) → TookFields s t (Some (f, g)) → Moved r t (read ++ 32 ∷ (digits f ++ (32 ∷ (digits g ++ end)))) × NumberAt r (r.position + ahead) f × NumberAt r (past f + 1) g
+  two_of f g (m, n, n') = (moved_join so_far m, first_at n, moved_number so_far refl n')
+
 -- a line of a kind, of which the letter was read from r to s and the rest to t
 module _ {r s t : LineReader} where
   pub opening_of : (f g : Field) → Moved r s (79 ∷ []) → TookFields s t (Some (f, g)) → TookForm kind.Opening r t (Some (Opening f g))
-  opening_of f g told (m, n, n', p, p') = (moved_join told m, (n, n'), (moved_field told (omega (arith, moved_place told)) p, moved_field told refl p'))
+  opening_of f g told took = let (m, n, n') = two_of told 2 refl f g took in (m, (n.number, n'.number), (n.stands, n'.stands))
 
   pub cut_of : (f g : Field) → Moved r s (67 ∷ []) → TookFields s t (Some (f, g)) → TookForm kind.Cut r t (Some (Cut f g))
-  cut_of f g told (m, n, n', p, p') = (moved_join told m, (n, n'), (moved_field told (omega (arith, moved_place told)) p, moved_field told refl p'))
+  cut_of f g told took = let (m, n, n') = two_of told 2 refl f g took in (m, (n.number, n'.number), (n.stands, n'.stands))
 
   pub withdrawal_of : (f : Field) → Moved r s (87 ∷ []) → TookLastField s t (Some f) → TookForm kind.Withdrawal r t (Some (Withdrawal f))
-  withdrawal_of f told (m, n, p) = (moved_join told m, n, moved_field told (omega (arith, moved_place told)) p)
-
-  pub uncrossing_of : Moved r s (85 ∷ []) → Moved s t end → TookForm kind.Uncrossing r t (Some Uncrossing)
-  uncrossing_of told m = (moved_join told m, tt, tt)
+  withdrawal_of f told took = let (m, n) = one_of told 2 refl f took in (m, n.number, n.stands)
 
   -- an entry, of which the side was read from q
   pub entry_of : {q : LineReader} (which : Side) (f g : Field) → Moved r q (69 ∷ []) → TookSide q s (Some which) → TookFields s t (Some (f, g)) → TookForm kind.Entry r t (Some (Entry which f g))
-  entry_of which f g told turn (m, n, n', p, p') =
-      let both = moved_join told turn in
-      (moved_join both m, (n, n'), (moved_field both (omega (arith, moved_place told, moved_place turn, one_byte which)) p, moved_field both refl p'))
+  entry_of which f g told turn took = let (m, n, n') = two_of (moved_join told turn) 4 (omega (arith, one_byte which)) f g took in (m, (n.number, n'.number), (n.stands, n'.stands))
 
 -- a form that begins with the byte that comes next is the only one that can be a line
 module _ (r t : LineReader) (k : Kind) (next : Next r (Some (letter k))) where

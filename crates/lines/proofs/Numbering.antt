@@ -35,7 +35,7 @@ number_parts text h =
     let rest = and_parts (all_digits text) (plain text) both.1 in
     record { some = ltb-true 0 (length text) sizes.0; few = leb-true (length text) 9 sizes.1; digits = rest.0; plain' = rest.1 }
 
-pub number_from : (text : List ℕ) → Number text → is_number text ≡ true
+number_from : (text : List ℕ) → Number text → is_number text ≡ true
 unfolding is_number
 number_from text n =
     and_from (ltb 0 (length text) && leb (length text) 9) (all_digits text && plain text)
@@ -43,7 +43,7 @@ number_from text n =
     (and_from (all_digits text) (plain text) n.digits n.plain')
 
 -- digits in front of digits
-pub digits_join : (xs bs : List ℕ) → all_digits xs ≡ true → all_digits bs ≡ true → all_digits (xs ++ bs) ≡ true
+digits_join : (xs bs : List ℕ) → all_digits xs ≡ true → all_digits bs ≡ true → all_digits (xs ++ bs) ≡ true
 unfolding all_digits
 digits_join [] bs h k = k
 digits_join (a ∷ xs) bs h k =
@@ -59,7 +59,7 @@ digits_split (a ∷ xs) b bs h =
     let rest = digits_split xs b bs both.1 in
     (rest.0, and_from (is_ascii_digit a) (all_digits xs) both.0 rest.1)
 
-pub one_digit : (b : ℕ) → is_ascii_digit b ≡ true → all_digits (b ∷ []) ≡ true
+one_digit : (b : ℕ) → is_ascii_digit b ≡ true → all_digits (b ∷ []) ≡ true
 unfolding all_digits
 one_digit b h = and_from (is_ascii_digit b) true h refl
 
@@ -74,10 +74,6 @@ unfolding plain
 plain_less [] b bs h = refl
 plain_less (d ∷ []) b bs h = h
 plain_less (d ∷ (e ∷ ds)) b bs h = h
-
-digits_nil : all_digits [] ≡ true
-unfolding all_digits
-digits_nil = refl
 
 -- a number goes on only so
 number_goes_on : (ds : List ℕ) (b : ℕ) → is_number (ds ++ b ∷ []) ≡ true → goes_on ds b ≡ true

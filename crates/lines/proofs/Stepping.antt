@@ -62,7 +62,7 @@ step_side s parts rest =
     }
 
 -- .. a number as far as it goes, before a byte that is no digit, ..
-pub step_number : (text : List ℕ) (c : ℕ) (parts : List Part) (rest : List ℕ) → is_number text ≡ true → is_ascii_digit c ≡ false → Ended text rest → Step (Fits (number ∷ (byte c ∷ parts))) (Fits (byte c ∷ parts)) text rest
+step_number : (text : List ℕ) (c : ℕ) (parts : List Part) (rest : List ℕ) → is_number text ≡ true → is_ascii_digit c ≡ false → Ended text rest → Step (Fits (number ∷ (byte c ∷ parts))) (Fits (byte c ∷ parts)) text rest
 step_number text c parts rest n other ends =
     record {
       leads = λ more f. (text, more, n, refl, f);

@@ -2,25 +2,13 @@
 use Rattle.std.proofs.Common.{◌≡◌, ℕ, ◌+◌, ◌-◌, ◌<◌, true, false, List, [], ◌∷◌, ◌++◌, length, get_or, take, drop, Some, None, Option, sym, refl, ap, ◌∙◌, subst, arith, length-drop}
 use Rattle.std.proofs.lemmas.List.{take_rest, take-append-drop, drop-drop, take_more, drop_more, take_at}
 use Rattle.std.specs.Char.{is_ascii_digit}
-use Rattle.book.specs.declared.orders.Side.{Side}
-use Rattle.book.specs.declared.orders.Side.TheVariants.{Buy, Sell}
 use Rattle.lines.specs.declared.fields.Field.{Field}
 use Rattle.lines.specs.declared.reader.LineReader.{LineReader}
 use Rattle.lines.specs.Digits.{is_number}
-use Rattle.lines.specs.Forms.{letter_of, end}
 use Rattle.lines.specs.Reading.{digits}
-use Rattle.lines.specs.Steps.{Part, byte, side, number, Fits, Leading, left, Moved, Halted, Ended, Next, TookNumber, TookField, TookLastField, TookFields}
-use Rattle.lines.proofs.Halting.{moved_byte, moved_field, moved_join, moved_place, halted_after, no_number}
+use Rattle.lines.specs.Steps.{Part, byte, side, number, Fits, Leading, left, Moved, Halted, Ended, TookNumber, TookField, TookLastField, TookFields}
+use Rattle.lines.proofs.Halting.{moved_number, moved_join, moved_place, halted_after, no_number}
 use Rattle.lines.proofs.Stepping.{step_byte, step_field}
-
--- the byte of a side's letter
-abbrev code_of : Side → ℕ
-code_of Buy = 66
-code_of Sell = 83
-
-one : (s : Side) → code_of s ∷ [] ≡ letter_of s
-one Buy = refl
-one Sell = refl
 
 -- after a space, what is read further
 module _ {r s : LineReader} (space : Moved r s (32 ∷ [])) where
@@ -30,13 +18,9 @@ module _ {r s : LineReader} (space : Moved r s (32 ∷ [])) where
   pub side_none : {t : LineReader} → ((parts : List Part) → Halted (Fits (side ∷ parts)) s t) → (parts : List Part) → Halted (Fits (byte 32 ∷ (side ∷ parts))) r t
   side_none h parts = after_space (side ∷ parts) (h parts)
 
-  pub side_some : {taken : Side} (t : LineReader) (which : Side) (b : ℕ) → Next s (Some b) → b ≡ code_of which → taken ≡ which → t.feed.now ≡ s.feed.now → t.position ≡ s.position + 1 → Moved r t (32 ∷ letter_of taken)
-  side_some t which b next told e same on =
-      subst (λ x. Moved r t (32 ∷ x)) (ap (λ c. c ∷ []) told ∙ one which ∙ ap letter_of (sym e)) (moved_join space (moved_byte s t b next same on))
-
   pub field_of : (t : LineReader) (o : Option Field) → TookNumber s t o → TookField r t o
   field_of t None h = λ parts. after_space (number ∷ parts) (h parts)
-  field_of t (Some f) (m, n, p, e) = (moved_join space m, n, moved_field space (moved_place space) p, e)
+  field_of t (Some f) (m, n, e) = (moved_join space m, moved_number space (moved_place space) n, e)
 
 -- the longest number in the rest of the feed, as the code cuts it
 module _ (r : LineReader) (n : ℕ) (led : Leading (take (length r.feed.now - r.position) (left r)) n) where
@@ -62,25 +46,24 @@ module _ (r : LineReader) (n : ℕ) (led : Leading (take (length r.feed.now - r.
       let rest : drop n (left r) ≡ left s = drop-drop n r.position r.feed.now ∙ ap (λ k. drop k r.feed.now) (sym on) ∙ ap (drop s.position) (sym same) in
       let over : left r ≡ digits f ++ left s = sym (take-append-drop n (left r)) ∙ ap (λ x. x ++ drop n (left r)) (sym text) ∙ ap (λ x. digits f ++ x) rest in (
         record { same = same; over = over },
-        subst (λ x. is_number x ≡ true) (sym text) (rest_led.number some),
-        record { begins = place; text = sym (ap (take (length (digits f))) over ∙ take_at (digits f) (left s) (length (digits f)) refl) },
+        record {
+          number = subst (λ x. is_number x ≡ true) (sym text) (rest_led.number some);
+          stands = record { begins = place; text = sym (ap (take (length (digits f))) over ∙ take_at (digits f) (left s) (length (digits f)) refl) };
+        },
         subst (λ x. Ended (digits f) x) rest (subst (λ x. Ended x (drop n (left r))) (sym text) longest_ended),
       )
 
 -- the last field, and the end of the line
 module _ {r s : LineReader} (f : Field) (took : TookField r s (Some f)) where
   after_field : {t : LineReader} (c : ℕ) (parts : List Part) → is_ascii_digit c ≡ false → Halted (Fits (byte c ∷ parts)) s t → Halted (Fits (byte 32 ∷ (number ∷ (byte c ∷ parts)))) r t
-  after_field c parts other h = halted_after took.0 (step_field (digits f) c parts (left s) took.1 other took.3) h
+  after_field c parts other h = halted_after took.0 (step_field (digits f) c parts (left s) took.1.number other took.2) h
 
   pub field_unended : {t : LineReader} → ((parts : List Part) → Halted (Fits (byte 10 ∷ parts)) s t) → TookLastField r t None
   field_unended h = after_field 10 [] refl (h [])
-
-  pub field_ended : {t : LineReader} → Moved s t end → TookLastField r t (Some f)
-  field_ended m = (moved_join took.0 m, took.1, took.2)
 
   -- the last two fields
   pub no_second : {t : LineReader} → TookLastField s t None → TookFields r t None
   no_second h = after_field 32 (number ∷ (byte 10 ∷ [])) refl h
 
   pub both_fields : {t : LineReader} (g : Field) → TookLastField s t (Some g) → TookFields r t (Some (f, g))
-  both_fields g (m, n, p) = (moved_join took.0 m, took.1, n, took.2, moved_field took.0 (omega (arith, took.2.begins, moved_place took.0)) p)
+  both_fields g (m, n) = (moved_join took.0 m, took.1, moved_number took.0 (omega (arith, took.1.stands.begins, moved_place took.0)) n)

@@ -15,6 +15,11 @@ pub record Leading (bytes : List ℕ) (n : ℕ) : Type 0 where
   pub number : 0 < n → is_number (take n bytes) ≡ true
   pub longest : n < length bytes → is_number (take (n + 1) bytes) ≡ false
 
+-- a field at a place of the reader's feed is a number
+pub record NumberAt (reader : LineReader) (place : ℕ) (f : Field) : Type 0 where
+  pub number : is_number (digits f) ≡ true
+  pub stands : FieldAt reader.feed.now place f
+
 -- the byte that comes next does not make a longer number of these digits
 abbrev pub Ended : List ℕ → List ℕ → Type 0
 Ended text rest = (b : ℕ) (more : List ℕ) → rest ≡ b ∷ more → is_number (text ++ b ∷ []) ≡ false
@@ -90,26 +95,23 @@ TookSide before after None = (parts : List Part) → Halted (Fits (byte 32 ∷ (
 
 -- .. a number as far as it goes, ..
 abbrev pub TookNumber : LineReader → LineReader → Option Field → Type 0
-TookNumber before after (Some f) =
-    Moved before after (digits f) × (is_number (digits f) ≡ true) × FieldAt before.feed.now before.position f × Ended (digits f) (left after)
+TookNumber before after (Some f) = Moved before after (digits f) × NumberAt before before.position f × Ended (digits f) (left after)
 TookNumber before after None = (parts : List Part) → Halted (Fits (number ∷ parts)) before after
 
 -- .. a space and a number, ..
 abbrev pub TookField : LineReader → LineReader → Option Field → Type 0
-TookField before after (Some f) =
-    Moved before after (32 ∷ digits f) × (is_number (digits f) ≡ true) × FieldAt before.feed.now (before.position + 1) f × Ended (digits f) (left after)
+TookField before after (Some f) = Moved before after (32 ∷ digits f) × NumberAt before (before.position + 1) f × Ended (digits f) (left after)
 TookField before after None = (parts : List Part) → Halted (Fits (byte 32 ∷ (number ∷ parts))) before after
 
 -- .. the last field of a line, ..
 abbrev pub TookLastField : LineReader → LineReader → Option Field → Type 0
-TookLastField before after (Some f) =
-    Moved before after (32 ∷ (digits f ++ end)) × (is_number (digits f) ≡ true) × FieldAt before.feed.now (before.position + 1) f
+TookLastField before after (Some f) = Moved before after (32 ∷ (digits f ++ end)) × NumberAt before (before.position + 1) f
 TookLastField before after None = Halted (Fits (behind Withdrawal)) before after
 
 -- .. the last two fields, ..
 abbrev pub TookFields : LineReader → LineReader → Option (Field × Field) → Type 0
 TookFields before after (Some (f, g)) =
-    Moved before after (32 ∷ (digits f ++ (32 ∷ (digits g ++ end)))) × (is_number (digits f) ≡ true) × (is_number (digits g) ≡ true) × FieldAt before.feed.now (before.position + 1) f × FieldAt before.feed.now (past f + 1) g
+    Moved before after (32 ∷ (digits f ++ (32 ∷ (digits g ++ end)))) × NumberAt before (before.position + 1) f × NumberAt before (past f + 1) g
 TookFields before after None = Halted (Fits (behind Cut)) before after
 
 -- .. a line, ..

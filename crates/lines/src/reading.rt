@@ -143,6 +143,7 @@ impl<'a> LineReader<'a> {
     }
 
     /// Takes a line, or stops at the byte that no form can take.
+    #[tactic(auto, using(crate::proofs::Lining::line_of))]
     fn line(&mut self) -> Option<Line<'a>>
         ensures { TookLine self.old self.new result }
     {
@@ -161,6 +162,7 @@ impl<'a> LineReader<'a> {
     ///
     /// `None` at the feed's end. A line that has none of the five forms is refused at the first byte that no form can take;
     /// at the feed's end if only its end is lacking.
+    // The clauses name the feed and places in it, not the reader as a whole: so are the lines of a whole feed defined.
     pub fn next_line(&mut self) -> Option<Result<Line<'a>, MalformedLine>>
         ensures same { self.new.feed.now ≡ self.old.feed.now }
         ensures next { self.new.position ≡ next_start self.old.feed.now self.old.position }

@@ -1,10 +1,5 @@
-use Rattle.lines.specs.Kinds.{Withdrawal}
-use Rattle.lines.specs.Steps.{behind}
 use Rattle.lines.proofs.Taking.{no_second, both_fields}
 use Rattle.lines.proofs.reader.LineReader.last_fields.Goals as goal
-
-pub returns-in_err-first : goal.returns-in_err-first
-returns-in_err-first c = rw c.from_residual.ensures (c.in_err-first.ensures (behind Withdrawal))
 
 pub returns-in_err-second : goal.returns-in_err-second
 returns-in_err-second c = rw c.from_residual-in_err-second.ensures (no_second c.in_ok-first.first c.in_ok-first.ensures c.in_err-second.ensures)

@@ -1,12 +1,12 @@
-use Rattle.std.proofs.Common.{◌+◌, ◌++◌, drop, refl, ap, ◌∙◌, arith}
+use Rattle.std.proofs.Common.{◌+◌, ◌++◌, drop, ap, ◌∙◌, arith}
 use Rattle.lines.specs.Forms.{written}
 use Rattle.lines.specs.Reading.{message}
 use Rattle.lines.proofs.Halting.{next_handed, only_line, next_refused, refused_at}
 use Rattle.lines.proofs.Lining.{next_none, next_onward, rest_length, rest_within}
 use Rattle.lines.proofs.reader.LineReader.next_line.Goals as goal
 
-pub returns-then-self : goal.returns-then-self
-returns-then-self c = record { same = refl; next = next_none _ _ c.if-self.true; onward = λ h. absurd (omega arith); answer = (omega (arith, c.args.self.now.inside, c.if-self.true), refl) }
+pub returns-then-self-clause-next : goal.returns-then-self-clause-next
+returns-then-self-clause-next c = next_none _ _ c.if-self.true
 
 pub returns-in-Some : goal.returns-in-Some
 returns-in-Some c =
