@@ -6,6 +6,7 @@ ghost use Rattle.lines.specs.Digits.{is_number, value as decimal};
 pub(crate) const ZERO: u8 = b'0';
 
 /// A part of the feed, with the byte place at which it begins, counted from 0.
+// That the text is a number is no fact of the type: a caller may make a field of any bytes, and ask for its value.
 #[derive(Clone, Copy, Debug)]
 pub struct Field<'a> {
     pub text: &'a [u8],
