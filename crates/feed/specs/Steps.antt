@@ -1,16 +1,12 @@
 -- What each line of a feed asks for, or why it is at fault. Assumes nothing.
 use Rattle.std.specs.Prelude.{◌≡◌, ℕ, ◌+◌, true, false, cond, ◌&&◌, List, [], ◌∷◌, length, Some, None, Ok, Err, Option, Result}
 use Rattle.lines.specs.declared.fields.Field.{Field}
-use Rattle.lines.specs.declared.kinds.SideLetter.{SideLetter}
-use Rattle.lines.specs.declared.kinds.SideLetter.TheVariants.{B, S}
 use Rattle.lines.specs.declared.kinds.Line.{Line}
 use Rattle.lines.specs.declared.kinds.Line.TheVariants.{Opening as LineOpening, Entry as LineEntry, Cut as LineCut, Withdrawal as LineWithdrawal, Uncrossing as LineUncrossing}
 use Rattle.lines.specs.declared.refusals.MalformedLine.{MalformedLine}
 use Rattle.lines.specs.Digits.{value as decimal}
 use Rattle.lines.specs.Forms.{Legal}
 use Rattle.lines.specs.Reading.{message, next_start, Answered}
-use Rattle.book.specs.declared.orders.Side.{Side}
-use Rattle.book.specs.declared.orders.Side.TheVariants.{Buy, Sell}
 use Rattle.session.specs.declared.sessions.Session.{Session}
 use Rattle.session.specs.declared.refusals.SessionRefusal.TheVariants.{SessionRange}
 use Rattle.session.specs.Ranges.{is_tick, is_price}
@@ -52,10 +48,6 @@ pub record Terms : Type 0 where
 abbrev pub terms_of : Option Session → Option Terms
 terms_of None = None
 terms_of (Some s) = Some (record { tick = s.tick; scarcity = s.scarcity })
-
-abbrev pub side_of : SideLetter → Side
-side_of B = Buy
-side_of S = Sell
 
 abbrev pub number : Field → ℕ
 number f = decimal f.text.now
@@ -104,7 +96,7 @@ call_judged (Some t) p c = Ok (Asking c p)
 
 abbrev pub line_judged : Option Terms → Places → Line → Result Step Fault
 line_judged t p (LineOpening tick scarcity) = opening_judged t p (number tick) (number scarcity)
-line_judged t p (LineEntry side quantity price) = call_judged t p (Entry (side_of side) (number quantity) (number price))
+line_judged t p (LineEntry side quantity price) = call_judged t p (Entry side (number quantity) (number price))
 line_judged t p (LineCut order quantity) = call_judged t p (Cut (number order) (number quantity))
 line_judged t p (LineWithdrawal order) = call_judged t p (Withdrawal (number order))
 line_judged t p LineUncrossing = call_judged t p Uncrossing

@@ -3,12 +3,11 @@ ghost use Rattle.std.specs.Prelude.{◌≡◌, true};
 ghost use Rattle.lines.specs.Digits.{is_number};
 ghost use Rattle.lines.specs.Forms.{Legal};
 ghost use Rattle.lines.specs.Reading.{message, digits};
-ghost use Rattle.feed.specs.Steps.{terms_of, side_of, judged, line_judged, opening_judged, call_judged, opened, line_opened, terms_after, places_of, terms_place, Lawful, Opens};
+ghost use Rattle.feed.specs.Steps.{terms_of, judged, line_judged, opening_judged, call_judged, opened, line_opened, terms_after, places_of, terms_place, Lawful, Opens};
 
 use crate::faults::Fault;
 use crate::places::{Placed, Places};
-use book::Side;
-use lines::{Field, Line, MalformedLine, SideLetter};
+use lines::{Field, Line, MalformedLine};
 use session::{MAX_TICK, Session};
 use trading::{Call, Refusal};
 
@@ -19,15 +18,6 @@ pub(crate) enum Step {
     Opening,
     /// A call in the session.
     Asking { call: Call, places: Places },
-}
-
-fn side_of(letter: SideLetter) -> Side
-    ensures { result ≡ side_of letter }
-{
-    match letter {
-        SideLetter::B => Side::Buy,
-        SideLetter::S => Side::Sell,
-    }
 }
 
 /// The place of the tick if that is out of range, else that of the scarcity price.
@@ -118,7 +108,7 @@ fn ask(session: &mut Option<Session>, places: Places, line: Line<'_>) -> Result<
             quantity,
             price,
         } => Call::Entry {
-            side: side_of(side),
+            side,
             quantity: quantity.value(),
             price: price.value(),
         },

@@ -3,10 +3,9 @@ use Rattle.std.proofs.Common.{◌≡◌, ℕ, true, false, cond, eqb, ◌⊎◌,
 use Rattle.std.specs.Char.{is_ascii_digit}
 use Rattle.std.proofs.lemmas.List.{append-nil}
 use Rattle.std.proofs.lemmas.Bool.{both_ways}
-use Rattle.lines.specs.declared.kinds.Kind.{Kind}
-use Rattle.lines.specs.declared.kinds.Kind.TheVariants.{Opening, Entry, Cut, Withdrawal, Uncrossing}
-use Rattle.lines.specs.declared.kinds.SideLetter.{SideLetter}
-use Rattle.lines.specs.declared.kinds.SideLetter.TheVariants.{B, S}
+use Rattle.lines.specs.Kinds.{Kind, Opening, Entry, Cut, Withdrawal, Uncrossing}
+use Rattle.book.specs.declared.orders.Side.{Side}
+use Rattle.book.specs.declared.orders.Side.TheVariants.{Buy, Sell}
 use Rattle.lines.specs.Digits.{is_number}
 use Rattle.lines.specs.Forms.{Message, opening, entry, cut, withdrawal, uncrossing, letter_of, end, written, Legal, IsLine}
 use Rattle.lines.specs.Steps.{Part, byte, side, number, Fits, behind, letter}
@@ -17,7 +16,7 @@ use Rattle.lines.proofs.Numbering.{number_parts, number_front, digits_split, zer
 pub fill : (parts : List Part) → (bytes : List ℕ) × Fits parts bytes
 fill [] = ([], refl)
 fill (byte b ∷ parts) = let f = fill parts in (b ∷ f.0, (f.0, refl, f.1))
-fill (side ∷ parts) = let f = fill parts in (letter_of B ++ f.0, (B, f.0, refl, f.1))
+fill (side ∷ parts) = let f = fill parts in (letter_of Buy ++ f.0, (Buy, f.0, refl, f.1))
 fill (number ∷ parts) = let f = fill parts in (48 ∷ f.0, (48 ∷ [], f.0, zero_number, refl, f.1))
 
 -- two fronts of one list: one is a front of the other
@@ -114,9 +113,9 @@ kind_line Uncrossing more (r₁, e₁, e₂) = record { message = uncrossing; le
 ends_field : (rest text : List ℕ) → is_number text ≡ true → EndsLine rest → EndsLine (32 ∷ (text ++ rest))
 ends_field rest text n h = ends_after (32 ∷ []) (text ++ rest) (unended_byte 32 (λ e. omega arith)) (ends_after text rest (unended_digits text (number_parts text n).digits) h)
 
-ends_side : (rest : List ℕ) (s : SideLetter) → EndsLine rest → EndsLine (32 ∷ (letter_of s ++ rest))
-ends_side rest B h = ends_after (32 ∷ []) (66 ∷ rest) (unended_byte 32 (λ e. omega arith)) (ends_after (66 ∷ []) rest (unended_byte 66 (λ e. omega arith)) h)
-ends_side rest S h = ends_after (32 ∷ []) (83 ∷ rest) (unended_byte 32 (λ e. omega arith)) (ends_after (83 ∷ []) rest (unended_byte 83 (λ e. omega arith)) h)
+ends_side : (rest : List ℕ) (s : Side) → EndsLine rest → EndsLine (32 ∷ (letter_of s ++ rest))
+ends_side rest Buy h = ends_after (32 ∷ []) (66 ∷ rest) (unended_byte 32 (λ e. omega arith)) (ends_after (66 ∷ []) rest (unended_byte 66 (λ e. omega arith)) h)
+ends_side rest Sell h = ends_after (32 ∷ []) (83 ∷ rest) (unended_byte 32 (λ e. omega arith)) (ends_after (83 ∷ []) rest (unended_byte 83 (λ e. omega arith)) h)
 
 ends_rest : (m : Message) → Legal m → EndsLine (rest_of m)
 ends_rest (opening tick scarcity) legal = ends_field _ tick legal.0 (ends_field _ scarcity legal.1 ends_byte)
@@ -137,11 +136,11 @@ line_ends m legal =
     subst EndsLine (sym (in_two m)) (ends_after (letter (kind_of m) ∷ []) (rest_of m) (unended_byte (letter (kind_of m)) (letter_no_end (kind_of m))) (ends_rest m legal))
 
 -- a side's letter is one byte
-pub side_rest : (s t : SideLetter) (xs ys : List ℕ) → letter_of s ++ xs ≡ letter_of t ++ ys → xs ≡ ys
-side_rest B B xs ys e = cc
-side_rest B S xs ys e = cc
-side_rest S B xs ys e = cc
-side_rest S S xs ys e = cc
+pub side_rest : (s t : Side) (xs ys : List ℕ) → letter_of s ++ xs ≡ letter_of t ++ ys → xs ≡ ys
+side_rest Buy Buy xs ys e = cc
+side_rest Buy Sell xs ys e = cc
+side_rest Sell Buy xs ys e = cc
+side_rest Sell Sell xs ys e = cc
 
 -- the message of parts of a kind
 abbrev message_of : (k : Kind) (more : List ℕ) → Fits (behind k) more → Message
@@ -168,11 +167,11 @@ same_two more more' same (r₁, e₁, (t, r₂, n, e₂, (r₃, e₃, (u, r₄, 
     let second : u ++ 10 ∷ r₅ ≡ w ++ 10 ∷ q₅ = cc in
     (one.0, (same_text u w 10 10 r₅ q₅ m p refl refl second).0)
 
-same_side : (s t : SideLetter) (xs ys : List ℕ) → letter_of s ++ xs ≡ letter_of t ++ ys → s ≡ t
-same_side B B xs ys e = refl
-same_side B S xs ys e = let z : ◌≡◌ {A = ℕ} 66 83 = cc in absurd (omega arith)
-same_side S B xs ys e = let z : ◌≡◌ {A = ℕ} 83 66 = cc in absurd (omega arith)
-same_side S S xs ys e = refl
+same_side : (s t : Side) (xs ys : List ℕ) → letter_of s ++ xs ≡ letter_of t ++ ys → s ≡ t
+same_side Buy Buy xs ys e = refl
+same_side Buy Sell xs ys e = let z : ◌≡◌ {A = ℕ} 66 83 = cc in absurd (omega arith)
+same_side Sell Buy xs ys e = let z : ◌≡◌ {A = ℕ} 83 66 = cc in absurd (omega arith)
+same_side Sell Sell xs ys e = refl
 
 fits_same : (k : Kind) (more : List ℕ) (f g : Fits (behind k) more) → message_of k more f ≡ message_of k more g
 fits_same Opening more f g = let both = same_two more more refl f g in cc

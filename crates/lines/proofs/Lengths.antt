@@ -1,20 +1,21 @@
 -- How long a line is. Assumes nothing.
-use Rattle.std.proofs.Common.{◌≡◌, ℕ, suc, ◌+◌, ◌<◌, ◌≤◌, true, eqb, leb, List, [], ◌∷◌, ◌++◌, length, get_or, drop, refl, ap, ⊎_elim, append_assoc, arith, length-append}
+use Rattle.std.proofs.Common.{◌≡◌, ℕ, suc, ◌+◌, ◌<◌, ◌≤◌, min, Bool, true, false, not, cond, eqb, ltb, leb, List, [], ◌∷◌, ◌++◌, length, Some, None, Option, refl, ap, subst, ⊎_elim, append_assoc, arith, length-append}
+use Rattle.std.specs.List.{position, position_or_len}
+use Rattle.std.specs.Option.{MatchOption}
 use Rattle.std.specs.Char.{is_ascii_digit}
-use Rattle.std.proofs.lemmas.List.{drop_more, drop_all}
-use Rattle.std.proofs.lemmas.Bool.{eq-eqb, ne_eqb, cond-true, cond-false, cases_eq, and_parts, leb-true}
+use Rattle.std.proofs.lemmas.Bool.{eq-eqb, ne_eqb, cond-true, cond-false, cases_eq, and_parts, leb-true, ltb-true, ltb-false}
 use Rattle.lines.specs.Digits.{all_digits}
 use Rattle.lines.specs.Forms.{end}
 use Rattle.lines.specs.Reading.{line_length}
 use Rattle.lines.specs.Steps.{Unended}
 
 -- a line ends at a line end ..
-pub length_ended : (b : ℕ) (bs : List ℕ) → b ≡ 10 → line_length (b ∷ bs) ≡ 1
+length_ended : (b : ℕ) (bs : List ℕ) → b ≡ 10 → line_length (b ∷ bs) ≡ 1
 unfolding line_length
 length_ended b bs e = cond-true (eqb b 10) 1 (suc (line_length bs)) (eq-eqb b 10 e)
 
 -- .. and goes on at any other byte
-pub length_more : (b : ℕ) (bs : List ℕ) → (b ≡ 10 → ⊥) → line_length (b ∷ bs) ≡ suc (line_length bs)
+length_more : (b : ℕ) (bs : List ℕ) → (b ≡ 10 → ⊥) → line_length (b ∷ bs) ≡ suc (line_length bs)
 unfolding line_length
 length_more b bs h = cond-false (eqb b 10) 1 (suc (line_length bs)) (ne_eqb b 10 h)
 
@@ -22,15 +23,30 @@ pub length_none : line_length [] ≡ 0
 unfolding line_length
 length_none = refl
 
--- so many bytes of a line are counted
-pub counted_more : (bytes : List ℕ) (i : ℕ) → line_length bytes ≡ i + line_length (drop i bytes) → i < length bytes → (get_or bytes i 0 ≡ 10 → ⊥) → line_length bytes ≡ i + 1 + line_length (drop (i + 1) bytes)
-counted_more bytes i e inside h = omega (arith, e, ap line_length (drop_more bytes i 0 inside), length_more (get_or bytes i 0) (drop (i + 1) bytes) h)
+-- the line goes up to the first line end and with it, or to the last of the bytes
+line_to_end : (bytes : List ℕ) → line_length bytes ≡ min (length bytes) (position_or_len (λ b. eqb b 10) bytes + 1)
+unfolding line_length
+line_to_end [] = refl
+line_to_end (b ∷ bs) = at (eqb b 10) (line_to_end bs) where
+  at : (ends : Bool) → line_length bs ≡ min (length bs) (position_or_len (λ c. eqb c 10) bs + 1)
+      → cond ends 1 (suc (line_length bs)) ≡ min (suc (length bs)) (cond (not ends) (1 + position_or_len (λ c. eqb c 10) bs) 0 + 1)
+  at true rest = omega arith
+  at false rest = omega arith
 
-pub counted_last : (bytes : List ℕ) (i : ℕ) → line_length bytes ≡ i + line_length (drop i bytes) → i < length bytes → get_or bytes i 0 ≡ 10 → i + 1 ≡ line_length bytes
-counted_last bytes i e inside h = omega (arith, e, ap line_length (drop_more bytes i 0 inside), length_ended (get_or bytes i 0) (drop (i + 1) bytes) h)
+-- so long is it by the place of that line end, if there is one
+module _ (bytes : List ℕ) (n : ℕ) where
+  abbrev place : ℕ
+  place = position_or_len (λ b. eqb b 10) bytes
 
-pub counted_all : (bytes : List ℕ) (i : ℕ) → line_length bytes ≡ i + line_length (drop i bytes) → i ≡ length bytes → length bytes ≡ line_length bytes
-counted_all bytes i e end = omega (arith, e, ap line_length (drop_all i bytes (omega arith)), length_none)
+  abbrev ByEnd : Option ℕ → Type 0
+  ByEnd place' = MatchOption place' (n ≡ length bytes) (λ i. n ≡ i + 1)
+
+  by_end : (inside : Bool) → ltb place (length bytes) ≡ inside → ByEnd (cond inside (Some place) None) → n ≡ line_length bytes
+  by_end true lt e = omega (arith, e, line_to_end bytes, ltb-true place (length bytes) lt)
+  by_end false ge e = omega (arith, e, line_to_end bytes, ltb-false place (length bytes) ge)
+
+  pub line_by_end : (place' : Option ℕ) → place' ≡ position (λ b. eqb b 10) bytes → ByEnd place' → n ≡ line_length bytes
+  line_by_end place' is e = by_end (ltb place (length bytes)) refl (subst ByEnd is e)
 
 -- a line is within the bytes
 pub length_within : (bytes : List ℕ) → line_length bytes ≤ length bytes

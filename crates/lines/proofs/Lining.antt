@@ -1,70 +1,94 @@
 -- What the reader takes and answers, way by way of the code: a line of each kind, none, the next. Assumes nothing.
-use Rattle.std.proofs.Common.{◌≡◌, ℕ, ◌+◌, ◌-◌, ◌<◌, ◌≤◌, List, [], ◌∷◌, ◌++◌, length, take, drop, Some, None, sym, refl, ap, ◌∙◌, subst, arith, length-drop}
-use Rattle.std.proofs.lemmas.List.{take_rest, drop_all}
+use Rattle.std.proofs.Common.{◌≡◌, ℕ, ◌+◌, ◌-◌, ◌<◌, ◌≤◌, List, [], ◌∷◌, ◌++◌, length, take, drop, Some, None, Option, sym, refl, ap, ◌∙◌, subst, arith, length-drop}
+use Rattle.std.proofs.lemmas.List.{take_rest, drop_all, drop_more}
+use Rattle.book.specs.declared.orders.Side.{Side}
+use Rattle.book.specs.declared.orders.Side.TheVariants.{Buy, Sell}
 use Rattle.lines.specs.declared.fields.Field.{Field}
-use Rattle.lines.specs.declared.kinds.Kind.{Kind}
-use Rattle.lines.specs.declared.kinds.Kind.TheVariants as kind
 use Rattle.lines.specs.declared.kinds.Line.{Line}
-use Rattle.lines.specs.declared.kinds.Line.TheVariants.{Opening, Entry, Cut, Withdrawal, Uncrossing}
-use Rattle.lines.specs.declared.kinds.SideLetter.{SideLetter}
-use Rattle.lines.specs.declared.kinds.SideLetter.TheVariants.{B, S}
+use Rattle.lines.specs.declared.kinds.Line.TheVariants.{Opening, Entry, Cut, Withdrawal}
 use Rattle.lines.specs.declared.reader.LineReader.{LineReader}
-use Rattle.lines.specs.Forms.{letter_of, end}
-use Rattle.lines.specs.Reading.{line_length, next_start}
-use Rattle.lines.specs.Steps.{side, Fits, behind, letter, Moved, Halted, TookLastField, TookFields, TookLine}
+use Rattle.lines.specs.Forms.{letter_of, end, IsLine}
+use Rattle.lines.specs.Kinds.{Kind}
+use Rattle.lines.specs.Kinds as kind
+use Rattle.lines.specs.Reading.{line_length, next_start, digits, past}
+use Rattle.lines.specs.Steps.{side, byte, Fits, behind, letter, left, Moved, Halted, Next, NumberAt, TookSide, TookLastField, TookFields, TookForm, TookLine}
 use Rattle.lines.proofs.Lengths.{length_none, length_some, length_within}
-use Rattle.lines.proofs.Halting.{moved_field, moved_join, moved_place, halted_after}
-use Rattle.lines.proofs.Stepping.{step_byte, step_side, step_join, step_kind}
+use Rattle.lines.proofs.Fitting.{line_kind, kind_line, letter_no_end, same_kind}
+use Rattle.lines.proofs.Halting.{moved_number, moved_join, moved_place, halted_after}
+use Rattle.lines.proofs.Stepping.{step_byte, step_side, step_join}
 
-one_byte : (s : SideLetter) → length (letter_of s) ≡ 1
-one_byte B = refl
-one_byte S = refl
+one_byte : (s : Side) → length (letter_of s) ≡ 1
+one_byte Buy = refl
+one_byte Sell = refl
 
--- the letter of a kind was read
-pub letter_read : {feed feed₁ : List ℕ} {from mid : ℕ} {k : Kind} (j : Kind) → k ≡ j → Moved feed from feed₁ mid (letter k ∷ []) → Moved feed from feed₁ mid (letter j ∷ [])
-letter_read {feed} {feed₁} {from} {mid} j is told = subst (λ x. Moved feed from feed₁ mid (letter x ∷ [])) is told
+-- the letter of a kind was read, but no line of it
+pub no_form : {r s t : LineReader} (k : Kind) → Moved r s (letter k ∷ []) → Halted (Fits (behind k)) s t → TookForm k r t None
+no_form {r} {s} {t} k told h = halted_after told (step_byte (letter k) (behind k) (left s) (letter_no_end k)) h
 
--- but no line of it
-pub no_line : {feed feed₁ feed₂ : List ℕ} {from mid to : ℕ} {k : Kind} (j : Kind) → k ≡ j → Moved feed from feed₁ mid (letter k ∷ []) → Halted (Fits (behind j)) feed₁ mid feed₂ to → TookLine feed from feed₂ to None
-no_line {feed} {feed₁} {feed₂} {from} {mid} {to} j is told h = halted_after (letter_read j is told) (step_kind j (drop mid feed)) h
+-- no fields of an entry, of which the side was read
+pub no_fields : {r s t : LineReader} (which : Side) → TookSide r s (Some which) → TookFields s t None → Halted (Fits (behind kind.Entry)) r t
+no_fields {r} {s} {t} which m h =
+    halted_after m (step_join (step_byte 32 (side ∷ behind kind.Cut) (letter_of which ++ left s) (λ e. omega arith)) (step_side which (behind kind.Cut) (left s))) h
 
--- the ways of the code meet
-pub meet : {feed : List ℕ} {from : ℕ} {s t : LineReader} {l m : Line} → s ≡ t → l ≡ m → TookLine feed from t.feed.now t.position (Some m) → TookLine feed from s.feed.now s.position (Some l)
-meet {feed} {from} {s} {t} {l} {m} e q h =
-    subst (λ x. TookLine feed from x.feed.now x.position (Some l)) (sym e) (subst (λ x. TookLine feed from t.feed.now t.position (Some x)) (sym q) h)
+-- numbers of the feed that was left are those of a line that was read further
+module _ {r s : LineReader} {read : List ℕ} (so_far : Moved r s read) (ahead : ℕ) (is : length read + 1 ≡ ahead) where
+  first_at : {f : Field} → NumberAt s (s.position + 1) f → NumberAt r (r.position + ahead) f
+  first_at n = moved_number so_far (omega (arith, moved_place so_far, is)) n
 
--- no entry, of which the side was read
-pub no_fields : {feed feed₁ feed₂ : List ℕ} {from mid to : ℕ} (s : SideLetter) → Moved feed from feed₁ mid (32 ∷ letter_of s) → TookFields feed₁ mid feed₂ to None → Halted (Fits (behind kind.Entry)) feed from feed₂ to
-no_fields {feed} {feed₁} {feed₂} {from} {mid} {to} s m h =
-    halted_after m (step_join (step_byte 32 (side ∷ behind kind.Cut) (letter_of s ++ drop mid feed) (λ e. omega arith)) (step_side s (behind kind.Cut) (drop mid feed))) h
+  one_of : {t : LineReader} (f : Field) → TookLastField s t (Some f) → Moved r t (read ++ 32 ∷ (digits f ++ end)) × NumberAt r (r.position + ahead) f
+  one_of f (m, n) = (moved_join so_far m, first_at n)
+
+  two_of : {t : LineReader} (f g : Field) → TookFields s t (Some (f, g)) → Moved r t (read ++ 32 ∷ (digits f ++ (32 ∷ (digits g ++ end)))) × NumberAt r (r.position + ahead) f × NumberAt r (past f + 1) g
+  two_of f g (m, n, n') = (moved_join so_far m, first_at n, moved_number so_far refl n')
 
 -- a line of a kind, of which the letter was read from r to s and the rest to t
-module _ (r s t : LineReader) where
-  abbrev Told : ℕ → Type 0
-  Told b = Moved r.feed.now r.position s.feed.now s.position (b ∷ [])
+module _ {r s t : LineReader} where
+  pub opening_of : (f g : Field) → Moved r s (79 ∷ []) → TookFields s t (Some (f, g)) → TookForm kind.Opening r t (Some (Opening f g))
+  opening_of f g told took = let (m, n, n') = two_of told 2 refl f g took in (m, (n.number, n'.number), (n.stands, n'.stands))
 
-  abbrev Taken : Line → Type 0
-  Taken line = TookLine r.feed.now r.position t.feed.now t.position (Some line)
+  pub cut_of : (f g : Field) → Moved r s (67 ∷ []) → TookFields s t (Some (f, g)) → TookForm kind.Cut r t (Some (Cut f g))
+  cut_of f g told took = let (m, n, n') = two_of told 2 refl f g took in (m, (n.number, n'.number), (n.stands, n'.stands))
 
-  pub opening_of : (f g : Field) → Told 79 → TookFields s.feed.now s.position t.feed.now t.position (Some (f, g)) → Taken (Opening f g)
-  opening_of f g told (m, n, n', p, p') =
-      (moved_join told m, (n, n'), (moved_field told.same (omega (arith, moved_place told r.inside s.inside)) p, moved_field told.same refl p'))
+  pub withdrawal_of : (f : Field) → Moved r s (87 ∷ []) → TookLastField s t (Some f) → TookForm kind.Withdrawal r t (Some (Withdrawal f))
+  withdrawal_of f told took = let (m, n) = one_of told 2 refl f took in (m, n.number, n.stands)
 
-  pub cut_of : (f g : Field) → Told 67 → TookFields s.feed.now s.position t.feed.now t.position (Some (f, g)) → Taken (Cut f g)
-  cut_of f g told (m, n, n', p, p') =
-      (moved_join told m, (n, n'), (moved_field told.same (omega (arith, moved_place told r.inside s.inside)) p, moved_field told.same refl p'))
+  -- an entry, of which the side was read from q
+  pub entry_of : {q : LineReader} (which : Side) (f g : Field) → Moved r q (69 ∷ []) → TookSide q s (Some which) → TookFields s t (Some (f, g)) → TookForm kind.Entry r t (Some (Entry which f g))
+  entry_of which f g told turn took = let (m, n, n') = two_of (moved_join told turn) 4 (omega (arith, one_byte which)) f g took in (m, (n.number, n'.number), (n.stands, n'.stands))
 
-  pub withdrawal_of : (f : Field) → Told 87 → TookLastField s.feed.now s.position t.feed.now t.position (Some f) → Taken (Withdrawal f)
-  withdrawal_of f told (m, n, p) = (moved_join told m, n, moved_field told.same (omega (arith, moved_place told r.inside s.inside)) p)
+-- a form that begins with the byte that comes next is the only one that can be a line
+module _ (r t : LineReader) (k : Kind) (next : Next r (Some (letter k))) where
+  abbrev Form : List ℕ → Type 0
+  Form = Fits (byte (letter k) ∷ behind k)
 
-  pub uncrossing_of : Told 85 → Moved s.feed.now s.position t.feed.now t.position end → Taken Uncrossing
-  uncrossing_of told m = (moved_join told m, tt, tt)
+  form_line : (bytes : List ℕ) → Form bytes → IsLine bytes
+  form_line bytes (rest, e, f) = subst IsLine (sym e) (kind_line k rest f)
 
-  -- an entry, of which the side was read to u
-  pub entry_of : (u : LineReader) (side' : SideLetter) (f g : Field) → Told 69 → Moved s.feed.now s.position u.feed.now u.position (32 ∷ letter_of side') → TookFields u.feed.now u.position t.feed.now t.position (Some (f, g)) → Taken (Entry side' f g)
-  entry_of u side' f g told turn (m, n, n', p, p') =
-      let same = turn.same ∙ told.same in
-      (moved_join told (moved_join turn m), (n, n'), (moved_field same (omega (arith, moved_place told r.inside s.inside, moved_place turn s.inside u.inside, one_byte side')) p, moved_field same refl p'))
+  line_form : (more : List ℕ) → IsLine (letter k ∷ more) → Form (letter k ∷ more)
+  line_form more line =
+      let told = line_kind (letter k) more line in
+      (more, refl, subst (λ j. Fits (behind j) more) (sym (same_kind k told.0 told.1)) told.2)
+
+  starts : left r ≡ letter k ∷ drop (r.position + 1) r.feed.now
+  starts = drop_more r.feed.now r.position 0 next.0 ∙ ap (λ b. b ∷ drop (r.position + 1) r.feed.now) next.1
+
+  begun : (read : List ℕ) (b : ℕ) (tail more : List ℕ) → left r ≡ read ++ b ∷ tail → IsLine (read ++ b ∷ more) → Form (read ++ b ∷ more)
+  begun [] b tail more e line = let is : letter k ≡ b = let q = starts in cc in subst (λ c. IsLine (c ∷ more) → Form (c ∷ more)) is (line_form more) line
+  begun (x ∷ read) b tail more e line =
+      let is : letter k ≡ x = let q = starts in cc in subst (λ c. IsLine (c ∷ (read ++ b ∷ more)) → Form (c ∷ (read ++ b ∷ more))) is (line_form (read ++ b ∷ more)) line
+
+  pub line_of : (o : Option Line) → TookForm k r t o → TookLine r t o
+  line_of (Some line) took = took
+  line_of None h =
+      record {
+        read = h.read;
+        moved = h.moved;
+        stuck = record {
+          could = (h.stuck.could.0, form_line (h.read ++ h.stuck.could.0) h.stuck.could.1);
+          cannot = λ b tail more e line. h.stuck.cannot b tail more e (begun h.read b tail more (h.moved.over ∙ ap (λ x. h.read ++ x) e) line);
+          unended = h.stuck.unended;
+        };
+      }
 
 -- at the feed's end no line is left
 pub next_none : (feed : List ℕ) (at : ℕ) → length feed ≤ at → at ≡ next_start feed at
@@ -75,9 +99,9 @@ pub next_onward : (feed : List ℕ) (from to : ℕ) → from < length feed → t
 next_onward feed from to inside e = omega (arith, length_some (drop from feed) (omega (arith, length-drop from feed)))
 
 -- the rest of a line, as the code cuts it
-module _ (feed : List ℕ) (at n : ℕ) (is : n ≡ line_length (take (length feed - at) (drop at feed))) where
-  pub rest_length : n ≡ line_length (drop at feed)
-  rest_length = is ∙ ap line_length (take_rest feed at)
+module _ (r : LineReader) (n : ℕ) (is : n ≡ line_length (take (length r.feed.now - r.position) (left r))) where
+  pub rest_length : n ≡ line_length (left r)
+  rest_length = is ∙ ap line_length (take_rest r.feed.now r.position)
 
-  pub rest_within : at ≤ length feed → at + n ≤ length feed
-  rest_within inside = omega (arith, rest_length, length_within (drop at feed), length-drop at feed)
+  pub rest_within : r.position + n ≤ length r.feed.now
+  rest_within = omega (arith, r.inside, rest_length, length_within (left r), length-drop r.position r.feed.now)

@@ -1,12 +1,24 @@
 -- Facts of numbers: their parts, how one goes on, where it ends, and their values. Assumes nothing.
-use Rattle.std.proofs.Common.{◌≡◌, ℕ, ◌+◌, ◌-◌, ◌*◌, ◌^◌, ◌<◌, ◌≤◌, min, true, false, not, ◌&&◌, eqb, ltb, leb, List, [], ◌∷◌, ◌++◌, length, get_or, take, drop, sym, refl, ap, ◌∙◌, subst, ⊎_elim, arith, length-append}
+use Rattle.std.proofs.Common.{◌≡◌, ℕ, ◌+◌, ◌-◌, ◌*◌, ◌^◌, ◌<◌, ◌≤◌, min, true, false, not, ◌&&◌, eqb, ltb, leb, cond, zero, suc, Bool, ◌==◌, List, [], ◌∷◌, ◌++◌, length, get_or, take, sym, refl, ap, ◌∙◌, subst, ⊎_elim, arith, length-append}
 use native.Mathlib.Nat.{pow-le-pow_right}
 use Rattle.std.proofs.lemmas.Nat.{pow-add}
 use Rattle.std.specs.Char.{is_ascii_digit}
-use Rattle.std.proofs.lemmas.List.{length-take-le, take_more, drop_more, take-append-drop, drop_all}
-use Rattle.std.proofs.lemmas.Bool.{ltb-true, leb-true, lt-ltb, le-leb, and_parts, and_from, cases_Bool, both_ways}
+use Rattle.std.specs.List.{fold, prefix_len, take_while, starts_with}
+use Rattle.std.proofs.lemmas.List.Folds.{length-prefix_len}
+use Rattle.std.proofs.lemmas.List.Sums.{prefix_len-le-length, prefix_len_stops, take_while-cons}
+use Rattle.std.proofs.lemmas.List.{length-take, take-take, get_or-take, length-take-le, take_more}
+use Rattle.std.proofs.lemmas.Bool.{ltb-true, leb-true, lt-ltb, le-leb, and_parts, and_from, cases_Bool, cases_lt, cases_eq, both_ways, not-true, ne_eqb}
 use Rattle.lines.specs.Digits.{all_digits, plain, is_number, value_after}
-use Rattle.lines.specs.Steps.{begins_with_zero, goes_on, Leading}
+use Rattle.lines.specs.Steps.{Leading}
+
+-- the digits begin with 0
+abbrev begins_with_zero : List ℕ → Bool
+begins_with_zero [] = false
+begins_with_zero (b ∷ bs) = b == 48
+
+-- a number that begins with these digits, if there are any, can go on with the byte
+abbrev goes_on : List ℕ → ℕ → Bool
+goes_on text b = is_ascii_digit b && (ltb (length text) 9 && not (begins_with_zero text))
 
 -- a number in its parts
 pub record Number (text : List ℕ) : Type 0 where
@@ -23,7 +35,7 @@ number_parts text h =
     let rest = and_parts (all_digits text) (plain text) both.1 in
     record { some = ltb-true 0 (length text) sizes.0; few = leb-true (length text) 9 sizes.1; digits = rest.0; plain' = rest.1 }
 
-pub number_from : (text : List ℕ) → Number text → is_number text ≡ true
+number_from : (text : List ℕ) → Number text → is_number text ≡ true
 unfolding is_number
 number_from text n =
     and_from (ltb 0 (length text) && leb (length text) 9) (all_digits text && plain text)
@@ -31,7 +43,7 @@ number_from text n =
     (and_from (all_digits text) (plain text) n.digits n.plain')
 
 -- digits in front of digits
-pub digits_join : (xs bs : List ℕ) → all_digits xs ≡ true → all_digits bs ≡ true → all_digits (xs ++ bs) ≡ true
+digits_join : (xs bs : List ℕ) → all_digits xs ≡ true → all_digits bs ≡ true → all_digits (xs ++ bs) ≡ true
 unfolding all_digits
 digits_join [] bs h k = k
 digits_join (a ∷ xs) bs h k =
@@ -47,7 +59,7 @@ digits_split (a ∷ xs) b bs h =
     let rest = digits_split xs b bs both.1 in
     (rest.0, and_from (is_ascii_digit a) (all_digits xs) both.0 rest.1)
 
-pub one_digit : (b : ℕ) → is_ascii_digit b ≡ true → all_digits (b ∷ []) ≡ true
+one_digit : (b : ℕ) → is_ascii_digit b ≡ true → all_digits (b ∷ []) ≡ true
 unfolding all_digits
 one_digit b h = and_from (is_ascii_digit b) true h refl
 
@@ -63,27 +75,8 @@ plain_less [] b bs h = refl
 plain_less (d ∷ []) b bs h = h
 plain_less (d ∷ (e ∷ ds)) b bs h = h
 
-digits_nil : all_digits [] ≡ true
-unfolding all_digits
-digits_nil = refl
-
--- none, or a number, goes on to a number ..
-pub goes_on_number : (ds : List ℕ) (b : ℕ) → (0 < length ds → is_number ds ≡ true) → goes_on ds b ≡ true → is_number (ds ++ b ∷ []) ≡ true
-goes_on_number ds b so_far h =
-    let both = and_parts (is_ascii_digit b) (ltb (length ds) 9 && not (begins_with_zero ds)) h in
-    let rest = and_parts (ltb (length ds) 9) (not (begins_with_zero ds)) both.1 in
-    number_from (ds ++ b ∷ []) (record {
-      some = omega (arith, length-append ds (b ∷ []));
-      few = omega (arith, length-append ds (b ∷ []), ltb-true (length ds) 9 rest.0);
-      digits = digits_join ds (b ∷ []) (before ds so_far) (one_digit b both.0);
-      plain' = plain_more ds b ∙ rest.1;
-    }) where
-      before : (xs : List ℕ) → (0 < length xs → is_number xs ≡ true) → all_digits xs ≡ true
-      before [] k = digits_nil
-      before (x ∷ xs) k = (number_parts (x ∷ xs) (k (omega arith))).digits
-
--- .. and only so
-pub number_goes_on : (ds : List ℕ) (b : ℕ) → is_number (ds ++ b ∷ []) ≡ true → goes_on ds b ≡ true
+-- a number goes on only so
+number_goes_on : (ds : List ℕ) (b : ℕ) → is_number (ds ++ b ∷ []) ≡ true → goes_on ds b ≡ true
 number_goes_on ds b h =
     let n = number_parts (ds ++ b ∷ []) h in
     and_from (is_ascii_digit b) (ltb (length ds) 9 && not (begins_with_zero ds)) (digits_split ds b [] n.digits).0
@@ -101,46 +94,113 @@ number_front ds b bs h =
       plain' = plain_less ds b bs n.plain';
     })
 
--- one byte more of the bytes goes on to a number, or does not
-pub on : (bytes : List ℕ) (i : ℕ) → i < length bytes → (0 < i → is_number (take i bytes) ≡ true) → goes_on (take i bytes) (get_or bytes i 0) ≡ true → is_number (take (i + 1) bytes) ≡ true
-on bytes i h so_far t =
-    let long = length-take-le i bytes (omega arith) in
-    subst (λ x. is_number x ≡ true) (sym (take_more bytes i 0 h)) (goes_on_number (take i bytes) (get_or bytes i 0) (λ k. so_far (omega (arith, long))) t)
+-- the digits at the front are digits
+front_digits : (xs : List ℕ) → all_digits (take_while is_ascii_digit xs) ≡ true
+unfolding all_digits
+front_digits [] = refl
+front_digits (x ∷ xs) = subst (λ l. all_digits l ≡ true) (sym (take_while-cons is_ascii_digit x xs)) (by (is_ascii_digit x) refl (front_digits xs)) where
+  by : (digit : Bool) → is_ascii_digit x ≡ digit → all_digits (take_while is_ascii_digit xs) ≡ true → all_digits (cond digit (x ∷ take_while is_ascii_digit xs) []) ≡ true
+  by true d rest = and_from (is_ascii_digit x) (all_digits (take_while is_ascii_digit xs)) d rest
+  by false d rest = refl
 
-pub off : (bytes : List ℕ) (i : ℕ) → i < length bytes → goes_on (take i bytes) (get_or bytes i 0) ≡ false → is_number (take (i + 1) bytes) ≡ false
-off bytes i h f =
+zero_front : (bytes : List ℕ) (n : ℕ) → 0 < n → begins_with_zero (take n bytes) ≡ begins_with_zero bytes
+zero_front bytes zero some = absurd (omega arith)
+zero_front [] (suc n) some = refl
+zero_front (b ∷ bs) (suc n) some = refl
+
+-- a front of more than one byte has no leading zero where the bytes do not begin with 0
+plain_front : (bytes : List ℕ) (n : ℕ) → (begins_with_zero bytes ≡ true → n ≤ 1) → plain (take n bytes) ≡ true
+unfolding plain
+plain_front bytes zero few = refl
+plain_front [] (suc n) few = refl
+plain_front (b ∷ bs) (suc zero) few = refl
+plain_front (b ∷ []) (suc (suc n)) few = refl
+plain_front (b ∷ (c ∷ cs)) (suc (suc n)) few = by (b == 48) refl where
+  by : (leads : Bool) → (b == 48) ≡ leads → not leads ≡ true
+  by true z = absurd (omega (arith, few z))
+  by false z = refl
+
+-- bytes begin with 0, as the code tests it
+starts_zero : (bytes : List ℕ) → starts_with eqb bytes (48 ∷ []) ≡ begins_with_zero bytes
+starts_zero [] = refl
+starts_zero (b ∷ bs) =
     ⊎_elim
-    (λ t. absurd (both_ways (goes_on (take i bytes) (get_or bytes i 0)) f (number_goes_on (take i bytes) (get_or bytes i 0) (subst (λ x. is_number x ≡ true) (take_more bytes i 0 h) t))))
-    (λ e. e)
-    (cases_Bool (is_number (take (i + 1) bytes)))
+    (λ e. subst (λ x. starts_with eqb (x ∷ bs) (48 ∷ []) ≡ (x == 48)) (sym e) refl)
+    (λ h. ap (λ t. t && true) (ne_eqb 48 b (λ e. h (sym e))) ∙ sym (ne_eqb b 48 h))
+    (cases_eq b 48)
 
--- a byte of a number is a digit
-pub digit_at : (text : List ℕ) (i : ℕ) → all_digits text ≡ true → i < length text → (48 ≤ get_or text i 0) × (get_or text i 0 ≤ 57)
-digit_at text i h inside =
-    let cut : take i text ++ get_or text i 0 ∷ drop (i + 1) text ≡ text = ap (λ x. take i text ++ x) (sym (drop_more text i 0 inside)) ∙ take-append-drop i text in
-    let is = (digits_split (take i text) (get_or text i 0) (drop (i + 1) text) (subst (λ x. all_digits x ≡ true) (sym cut) h)).0 in
-    let both = and_parts (leb 48 (get_or text i 0)) (leb (get_or text i 0) 57) is in
-    (leb-true 48 (get_or text i 0) both.0, leb-true (get_or text i 0) 57 both.1)
+pub most_digits : (bytes : List ℕ) (leads : Bool) (most : ℕ) → leads ≡ starts_with eqb bytes (48 ∷ []) → most ≡ cond leads 1 9 → most ≡ cond (begins_with_zero bytes) 1 9
+most_digits bytes leads most is e = e ∙ ap (λ t. cond t 1 9) (is ∙ starts_zero bytes)
 
--- values that are equal up to the largest of 32 bits stay so with more digits
+-- the digits at the front of the bytes, of which one counts behind a leading zero and else nine, are the longest number there
+module _ (bytes : List ℕ) (most n : ℕ) (is : n ≡ length (take_while is_ascii_digit (take most bytes))) where
+  counted : n ≡ prefix_len is_ascii_digit (take most bytes)
+  counted = is ∙ length-prefix_len is_ascii_digit (take most bytes)
+
+  within_most : (n ≤ length bytes) × (n ≤ most)
+  within_most = let less = prefix_len-le-length is_ascii_digit (take most bytes) in (omega (arith, counted, less, length-take most bytes), omega (arith, counted, less, length-take most bytes))
+
+  front : take_while is_ascii_digit (take most bytes) ≡ take n bytes
+  front = ap (λ k. take k (take most bytes)) (sym counted) ∙ take-take n most bytes within_most.1
+
+  stops : n < most → n < length bytes → is_ascii_digit (get_or bytes n 0) ≡ false
+  stops less inside =
+      subst (λ b. is_ascii_digit b ≡ false) (ap (λ k. get_or (take most bytes) k 0) (sym counted) ∙ get_or-take most bytes n 0 less)
+      (prefix_len_stops is_ascii_digit (take most bytes) 0 (omega (arith, counted, length-take most bytes)))
+
+  -- the most that count have no byte more that goes on
+  full : n ≡ most → n ≤ length bytes → goes_on (take n bytes) (get_or bytes n 0) ≡ true → (leads : Bool) → begins_with_zero bytes ≡ leads → most ≡ cond leads 1 9 → ⊥
+  full all inside h leads z e =
+      let rest = and_parts (ltb (length (take n bytes)) 9) (not (begins_with_zero (take n bytes))) (and_parts (is_ascii_digit (get_or bytes n 0)) _ h).1 in
+      by leads z e rest.0 rest.1
+    where
+      by : (leads : Bool) → begins_with_zero bytes ≡ leads → most ≡ cond leads 1 9 → ltb (length (take n bytes)) 9 ≡ true → not (begins_with_zero (take n bytes)) ≡ true → ⊥
+      by true z e few other = both_ways (begins_with_zero (take n bytes)) (not-true (begins_with_zero (take n bytes)) other) (zero_front bytes n (omega (arith, e)) ∙ z)
+      by false z e few other = omega (arith, e, ltb-true (length (take n bytes)) 9 few, length-take-le n bytes inside)
+
+  no_more : most ≡ cond (begins_with_zero bytes) 1 9 → n < length bytes → goes_on (take n bytes) (get_or bytes n 0) ≡ true → ⊥
+  no_more e inside h =
+      ⊎_elim
+      (λ less. both_ways (is_ascii_digit (get_or bytes n 0)) (stops less inside) (and_parts (is_ascii_digit (get_or bytes n 0)) _ h).0)
+      (λ all. full (omega (arith, all, within_most.1)) (omega arith) h (begins_with_zero bytes) refl e)
+      (cases_lt n most)
+
+  at_most : (leads : Bool) → most ≡ cond leads 1 9 → (most ≤ 9) × (leads ≡ true → most ≤ 1)
+  at_most true e = (omega arith, λ z. omega arith)
+  at_most false e = (omega arith, λ z. absurd (both_ways false refl z))
+
+  pub leading : most ≡ cond (begins_with_zero bytes) 1 9 → Leading bytes n
+  leading e =
+      let top = at_most (begins_with_zero bytes) e in
+      let long = length-take-le n bytes within_most.0 in
+      record {
+        within = within_most.0;
+        number = λ some.
+            number_from (take n bytes) (record {
+              some = omega (arith, long);
+              few = omega (arith, long, within_most.1, top.0);
+              digits = subst (λ x. all_digits x ≡ true) front (front_digits (take most bytes));
+              plain' = plain_front bytes n (λ z. omega (arith, top.1 z, within_most.1));
+            });
+        longest = λ inside.
+            ⊎_elim
+            (λ t. absurd (no_more e inside (number_goes_on (take n bytes) (get_or bytes n 0) (subst (λ x. is_number x ≡ true) (take_more bytes n 0 inside) t))))
+            (λ e. e)
+            (cases_Bool (is_number (take (n + 1) bytes)));
+      }
+
+-- a value as far as 32 bits go
 abbrev pub cap : ℕ → ℕ
 cap n = min 4294967295 n
 
-pub cap_after : (v w : ℕ) (ds : List ℕ) → cap v ≡ cap w → cap (value_after v ds) ≡ cap (value_after w ds)
-unfolding value_after
-cap_after v w [] e = e
-cap_after v w (d ∷ ds) e = cap_after (v * 10 + (d - 48)) (w * 10 + (d - 48)) ds (omega arith)
+-- and with a digit more, as the code adds it
+abbrev pub with_digit : ℕ → ℕ → ℕ
+with_digit v d = cap (cap (v * 10) + (d - 48))
 
--- one digit more, as the code adds it
-pub cap_more : (text : List ℕ) (i v w : ℕ) → i < length text → cap (value_after v (drop i text)) ≡ cap (value_after 0 text) → w ≡ cap (v * 10 + (get_or text i 0 - 48)) → cap (value_after w (drop (i + 1) text)) ≡ cap (value_after 0 text)
+pub cap_fold : (v w : ℕ) (ds : List ℕ) → v ≡ cap w → fold with_digit v ds ≡ cap (value_after w ds)
 unfolding value_after
-cap_more text i v w inside e is =
-    let next = v * 10 + (get_or text i 0 - 48) in
-    cap_after w next (drop (i + 1) text) (omega arith) ∙ sym (ap (λ x. cap (value_after v x)) (drop_more text i 0 inside)) ∙ e
-
-pub cap_all : (text : List ℕ) (i v : ℕ) → length text ≤ i → v ≤ 4294967295 → cap (value_after v (drop i text)) ≡ cap (value_after 0 text) → v ≡ cap (value_after 0 text)
-unfolding value_after
-cap_all text i v end fits e = let is : cap v ≡ cap (value_after 0 text) = sym (ap (λ x. cap (value_after v x)) (drop_all i text end)) ∙ e in omega arith
+cap_fold v w [] e = e
+cap_fold v w (d ∷ ds) e = cap_fold (with_digit v d) (w * 10 + (d - 48)) ds (omega arith)
 
 -- so many digits come to a value of no more digits
 small_after : (v k : ℕ) (ds : List ℕ) → v < 10 ^ k → all_digits ds ≡ true → value_after v ds < 10 ^ (k + length ds)
@@ -160,15 +220,6 @@ number_small text h =
     let less : 10 ^ (0 + length text) ≤ 10 ^ 9 = pow-le-pow_right {n = 10} (omega arith) {i = 0 + length text} {j = 9} (omega (arith, n.few)) in
     omega (arith, small_after 0 0 text (omega arith) n.digits)
 
--- all the bytes are a number, or there are none
-pub whole : (bytes : List ℕ) (i : ℕ) → i ≡ length bytes → (0 < i → is_number (take i bytes) ≡ true) → Leading bytes (length bytes)
-whole bytes i e so_far = subst (Leading bytes) e (record { within = omega arith; number = so_far; longest = λ h. absurd (omega arith) })
-
 pub zero_number : is_number (48 ∷ []) ≡ true
 unfolding is_number all_digits plain
 zero_number = refl
-
--- a number goes on by its first digit, as the code tests it
-pub goes_by_first : (text : List ℕ) (b : ℕ) → is_ascii_digit b ≡ true → length text < 9 → 0 < length text → not (eqb (get_or text 0 0) 48) ≡ goes_on text b
-goes_by_first [] b digit few some = absurd (omega arith)
-goes_by_first (d ∷ ds) b digit few some = rw (digit, lt-ltb (length (d ∷ ds)) 9 few)

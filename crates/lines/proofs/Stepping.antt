@@ -1,15 +1,14 @@
 -- How reading goes on, part by part. Assumes nothing.
 use Rattle.std.proofs.Common.{◌≡◌, ℕ, true, false, List, [], ◌∷◌, ◌++◌, sym, refl, ap, ◌∙◌, subst, append_assoc, arith}
 use Rattle.std.specs.Char.{is_ascii_digit}
-use Rattle.lines.specs.declared.kinds.Kind.{Kind}
-use Rattle.lines.specs.declared.kinds.SideLetter.{SideLetter}
-use Rattle.lines.specs.declared.kinds.SideLetter.TheVariants.{B, S}
+use Rattle.book.specs.declared.orders.Side.{Side}
+use Rattle.book.specs.declared.orders.Side.TheVariants.{Buy, Sell}
 use Rattle.lines.specs.Digits.{is_number}
-use Rattle.lines.specs.Forms.{letter_of, IsLine}
-use Rattle.lines.specs.Steps.{Part, byte, side, number, Fits, behind, letter, Ended, Unended, Stuck}
+use Rattle.lines.specs.Forms.{letter_of}
+use Rattle.lines.specs.Steps.{Part, byte, side, number, Fits, Ended, Unended, Stuck}
 use Rattle.lines.proofs.Lengths.{unended_byte, unended_digits, unended_join}
 use Rattle.lines.proofs.Numbering.{number_parts}
-use Rattle.lines.proofs.Fitting.{same_end, side_rest, line_kind, kind_line, letter_no_end, same_kind}
+use Rattle.lines.proofs.Fitting.{same_end, side_rest}
 
 -- what was read leads from the bytes that are wanted to those that are wanted of the rest, and from nowhere else
 pub record Step (Whole Rest : List ℕ → Type 0) (read rest : List ℕ) : Type 0 where
@@ -50,11 +49,11 @@ step_byte b parts rest h =
     }
 
 -- .. a side's letter, ..
-side_unended : (s : SideLetter) → Unended (letter_of s)
-side_unended B = unended_byte 66 (λ e. omega arith)
-side_unended S = unended_byte 83 (λ e. omega arith)
+side_unended : (s : Side) → Unended (letter_of s)
+side_unended Buy = unended_byte 66 (λ e. omega arith)
+side_unended Sell = unended_byte 83 (λ e. omega arith)
 
-pub step_side : (s : SideLetter) (parts : List Part) (rest : List ℕ) → Step (Fits (side ∷ parts)) (Fits parts) (letter_of s) rest
+pub step_side : (s : Side) (parts : List Part) (rest : List ℕ) → Step (Fits (side ∷ parts)) (Fits parts) (letter_of s) rest
 step_side s parts rest =
     record {
       leads = λ more f. (s, more, refl, f);
@@ -63,7 +62,7 @@ step_side s parts rest =
     }
 
 -- .. a number as far as it goes, before a byte that is no digit, ..
-pub step_number : (text : List ℕ) (c : ℕ) (parts : List Part) (rest : List ℕ) → is_number text ≡ true → is_ascii_digit c ≡ false → Ended text rest → Step (Fits (number ∷ (byte c ∷ parts))) (Fits (byte c ∷ parts)) text rest
+step_number : (text : List ℕ) (c : ℕ) (parts : List Part) (rest : List ℕ) → is_number text ≡ true → is_ascii_digit c ≡ false → Ended text rest → Step (Fits (number ∷ (byte c ∷ parts))) (Fits (byte c ∷ parts)) text rest
 step_number text c parts rest n other ends =
     record {
       leads = λ more f. (text, more, n, refl, f);
@@ -75,17 +74,6 @@ step_number text c parts rest n other ends =
       unended = unended_digits text (number_parts text n).digits;
     }
 
--- .. a space and a number, ..
+-- .. a space and a number
 pub step_field : (text : List ℕ) (c : ℕ) (parts : List Part) (rest : List ℕ) → is_number text ≡ true → is_ascii_digit c ≡ false → Ended text rest → Step (Fits (byte 32 ∷ (number ∷ (byte c ∷ parts)))) (Fits (byte c ∷ parts)) (32 ∷ text) rest
 step_field text c parts rest n other ends = step_join (step_byte 32 (number ∷ (byte c ∷ parts)) (text ++ rest) (λ e. omega arith)) (step_number text c parts rest n other ends)
-
--- .. a letter of a kind
-pub step_kind : (k : Kind) (rest : List ℕ) → Step IsLine (Fits (behind k)) (letter k ∷ []) rest
-step_kind k rest =
-    record {
-      leads = kind_line k;
-      forces = λ b tail more e line.
-          let told = line_kind (letter k) (b ∷ more) line in
-          subst (λ j. Fits (behind j) (b ∷ more)) (sym (same_kind k told.0 told.1)) told.2;
-      unended = unended_byte (letter k) (letter_no_end k);
-    }

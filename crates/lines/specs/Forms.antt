@@ -1,21 +1,21 @@
 -- The five forms of a line. Assumes nothing.
 use Rattle.std.specs.Prelude.{◌≡◌, ℕ, true, List, [], ◌∷◌, ◌++◌, codes}
-use Rattle.lines.specs.declared.kinds.SideLetter.{SideLetter}
-use Rattle.lines.specs.declared.kinds.SideLetter.TheVariants.{B, S}
+use Rattle.book.specs.declared.orders.Side.{Side}
+use Rattle.book.specs.declared.orders.Side.TheVariants.{Buy, Sell}
 use Rattle.lines.specs.Digits.{is_number}
 
 -- what a line says: its kind and its fields, each number by its digits
 pub data Message : Type 0 where
   opening : (tick scarcity : List ℕ) → Message
-  entry : (side : SideLetter) (quantity price : List ℕ) → Message
+  entry : (side : Side) (quantity price : List ℕ) → Message
   cut : (number quantity : List ℕ) → Message
   withdrawal : (number : List ℕ) → Message
   uncrossing : Message
 
 -- a side's letter
-abbrev pub letter_of : SideLetter → List ℕ
-letter_of B = codes "B"
-letter_of S = codes "S"
+abbrev pub letter_of : Side → List ℕ
+letter_of Buy = codes "B"
+letter_of Sell = codes "S"
 
 -- the byte 0A, which ends a line
 abbrev pub end : List ℕ

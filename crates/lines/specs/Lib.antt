@@ -1,4 +1,5 @@
 pub mod Digits
 pub mod Forms
+pub mod Kinds
 pub mod Reading
 pub mod Steps

@@ -6,6 +6,7 @@ ghost use Rattle.lines.specs.Digits.{is_number, value as decimal};
 pub(crate) const ZERO: u8 = b'0';
 
 /// A part of the feed, with the byte place at which it begins, counted from 0.
+// That the text is a number is no fact of the type: a caller may make a field of any bytes, and ask for its value.
 #[derive(Clone, Copy, Debug)]
 pub struct Field<'a> {
     pub text: &'a [u8],
@@ -20,12 +21,10 @@ impl<'a> Field<'a> {
         ensures exact { is_number self.entry.text.now ≡ true → (result ≡ decimal self.entry.text.now) × (result < 1000000000) }
         ensures capped { result ≡ min 4294967295 (decimal self.entry.text.now) }
     {
-        let mut value = 0u32;
-        for digit in self.text {
-            value = value
+        self.text.iter().fold(0, |value, digit| {
+            value
                 .saturating_mul(10)
-                .saturating_add(u32::from(digit.saturating_sub(ZERO)));
-        }
-        value
+                .saturating_add(u32::from(digit.saturating_sub(ZERO)))
+        })
     }
 }

@@ -1,24 +1,6 @@
 // What a line says.
 use crate::fields::Field;
-
-/// The letter of a side.
-#[derive(Clone, Copy, Debug, PartialEq, Eq)]
-pub enum SideLetter {
-    /// Buy.
-    B,
-    /// Sell.
-    S,
-}
-
-/// The kind of a line, which its first letter tells.
-#[derive(Clone, Copy)]
-pub(crate) enum Kind {
-    Opening,
-    Entry,
-    Cut,
-    Withdrawal,
-    Uncrossing,
-}
+use book::Side;
 
 /// A line of the feed.
 #[derive(Clone, Copy, Debug)]
@@ -30,7 +12,7 @@ pub enum Line<'a> {
     },
     /// `E side quantity price`
     Entry {
-        side: SideLetter,
+        side: Side,
         quantity: Field<'a>,
         price: Field<'a>,
     },

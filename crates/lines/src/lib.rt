@@ -9,6 +9,6 @@ mod refusals;
 mod scan;
 
 pub use fields::Field;
-pub use kinds::{Line, SideLetter};
+pub use kinds::Line;
 pub use reader::LineReader;
 pub use refusals::MalformedLine;

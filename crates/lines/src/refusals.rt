@@ -7,11 +7,11 @@ pub struct MalformedLine {
     pub place: usize,
 }
 
-impl MalformedLine {
-    /// The refusal's number.
-    pub fn code(self) -> u8
-        ensures { result ≡ 1 }
-    {
+/// The refusal's number.
+impl From<MalformedLine> for u8 {
+    ghost from_gives = { λ _ code. code ≡ 1 };
+
+    fn from(_: MalformedLine) -> u8 {
         1
     }
 }

@@ -1,37 +1,40 @@
 // A line as numbers, or where it is refused.
-use lines::{Line, LineReader, SideLetter};
+use book::Side;
+use lines::{Line, LineReader};
 
+/// What a line says, with the value of each number.
 #[derive(Clone, Copy, Debug, PartialEq, Eq)]
-pub(crate) enum Read {
+pub(crate) enum Said {
     Opening(u32, u32),
-    Entry(SideLetter, u32, u32),
+    Entry(Side, u32, u32),
     Cut(u32, u32),
     Withdrawal(u32),
     Uncrossing,
-    Refused(usize),
-    End,
 }
 
-/// What the next line says.
-pub(crate) fn next(reader: &mut LineReader) -> Read {
-    match reader.next_line() {
-        None => Read::End,
-        Some(Err(fault)) => Read::Refused(fault.place),
-        Some(Ok(line)) => match line {
-            Line::Opening { tick, scarcity } => Read::Opening(tick.value(), scarcity.value()),
+impl<'a> From<Line<'a>> for Said {
+    fn from(line: Line<'a>) -> Said {
+        match line {
+            Line::Opening { tick, scarcity } => Said::Opening(tick.value(), scarcity.value()),
             Line::Entry {
                 side,
                 quantity,
                 price,
-            } => Read::Entry(side, quantity.value(), price.value()),
-            Line::Cut { number, quantity } => Read::Cut(number.value(), quantity.value()),
-            Line::Withdrawal { number } => Read::Withdrawal(number.value()),
-            Line::Uncrossing => Read::Uncrossing,
-        },
+            } => Said::Entry(side, quantity.value(), price.value()),
+            Line::Cut { number, quantity } => Said::Cut(number.value(), quantity.value()),
+            Line::Withdrawal { number } => Said::Withdrawal(number.value()),
+            Line::Uncrossing => Said::Uncrossing,
+        }
     }
 }
 
+/// What the next line says, or the place at which it is refused.
+pub(crate) fn next(reader: &mut LineReader) -> Option<Result<Said, usize>> {
+    let read = reader.next_line()?;
+    Some(read.map(Said::from).map_err(|fault| fault.place))
+}
+
 /// What the feed's first line says.
-pub(crate) fn first(feed: &[u8]) -> Read {
+pub(crate) fn first(feed: &[u8]) -> Option<Result<Said, usize>> {
     next(&mut LineReader::new(feed))
 }

@@ -1,15 +1,12 @@
-use Rattle.std.proofs.Common.{sym, arith}
-use Rattle.lines.proofs.Numbering.{on, off, whole}
+use Rattle.std.proofs.Common.{◌≡◌, cond, sym, ap, ◌∙◌}
+use Rattle.lines.proofs.Numbering.{leading, most_digits}
 use Rattle.lines.proofs.scan.number_len.Goals as goal
-
-pub loop-i-init : goal.loop-i-init
-loop-i-init c = λ h. absurd (omega arith)
-
-pub loop-i-preserved : goal.loop-i-preserved
-loop-i-preserved c = λ h. on _ _ (omega arith) c.loop-i.invariant (sym c.if-not-goes_on.ensures)
-
-pub returns-then-not-goes_on : goal.returns-then-not-goes_on
-returns-then-not-goes_on c = record { within = omega arith; number = c.loop-i.invariant; longest = λ h. off _ _ h (sym c.if-not-goes_on.ensures) }
+use Rattle.lines.proofs.scan.number_len.Goals.{then-starts_with, else-starts_with}
 
 pub returns : goal.returns
-returns c = whole _ _ (omega arith) c.loop-i.invariant
+returns c =
+    let most : c.if-starts_with.most ≡ cond c.starts_with.result 1 9 = elim c.if-starts_with.branch [
+      | then-starts_with w ↦ w.most-is ∙ sym (ap (λ t. cond t 1 9) w.if-starts_with.true)
+      | else-starts_with w ↦ w.most-is ∙ sym (ap (λ t. cond t 1 9) w.if-starts_with.false)
+    ] in
+    leading _ _ _ c.digits_len.ensures (most_digits c.args.bytes.now c.starts_with.result _ c.starts_with.ensures.value most)

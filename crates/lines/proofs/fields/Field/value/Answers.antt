@@ -1,12 +1,12 @@
-use Rattle.std.proofs.Common.{arith}
-use Rattle.lines.proofs.Numbering.{cap_more, cap_all, number_small}
+use Rattle.std.proofs.Common.{◌≡◌, refl, ◌∙◌, rules, arith}
+use Rattle.std.specs.List.{fold}
+use Rattle.std.proofs.iter.runs.Made.{chains}
+use Rattle.lines.proofs.Numbering.{with_digit, cap_fold, number_small}
 use Rattle.lines.proofs.fields.Field.value.Goals as goal
-
-pub loop-digit-preserved : goal.loop-digit-preserved
-loop-digit-preserved c = (omega arith, cap_more _ _ _ _ (omega arith) c.loop-digit.invariant.1 (omega arith))
 
 pub returns : goal.returns
 returns c =
     let text = c.args.self.text.now in
-    let is = cap_all text c.loop-digit.digit-index c.loop-digit.value (omega arith) c.loop-digit.invariant.0 c.loop-digit.invariant.1 in
+    let folded : c.fold.result ≡ fold with_digit 0 text = search (rules, chains) in
+    let is = folded ∙ cap_fold 0 0 text refl in
     record { exact = λ h. (omega (arith, is, number_small text h), omega (arith, is, number_small text h)); capped = is }

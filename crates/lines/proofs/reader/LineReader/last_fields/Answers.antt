@@ -1,13 +1,8 @@
-use Rattle.lines.specs.declared.kinds.Kind.TheVariants.{Withdrawal}
-use Rattle.lines.specs.Steps.{behind}
 use Rattle.lines.proofs.Taking.{no_second, both_fields}
 use Rattle.lines.proofs.reader.LineReader.last_fields.Goals as goal
-
-pub returns-in_err-first : goal.returns-in_err-first
-returns-in_err-first c = rw c.from_residual.ensures (c.in_err-first.ensures (behind Withdrawal))
 
 pub returns-in_err-second : goal.returns-in_err-second
 returns-in_err-second c = rw c.from_residual-in_err-second.ensures (no_second c.in_ok-first.first c.in_ok-first.ensures c.in_err-second.ensures)
 
 pub returns : goal.returns
-returns c = both_fields c.in_ok-first.first c.in_ok-first.ensures c.in_ok-second.second c.args.self.now.inside c.field.new.self.inside c.in_ok-second.ensures
+returns c = both_fields c.in_ok-first.first c.in_ok-first.ensures c.in_ok-second.second c.in_ok-second.ensures

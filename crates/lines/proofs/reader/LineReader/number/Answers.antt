@@ -3,7 +3,7 @@ use Rattle.lines.proofs.Taking.{number_none, number_some}
 use Rattle.lines.proofs.reader.LineReader.number.Goals as goal
 
 pub returns-then-len-eq0 : goal.returns-then-len-eq0
-returns-then-len-eq0 c = number_none _ _ _ c.number_len-len.ensures c.if-len-eq0.true
+returns-then-len-eq0 c = number_none _ _ c.number_len-len.ensures c.if-len-eq0.true
 
 pub returns : goal.returns
-returns c = number_some _ _ _ c.number_len-len.ensures _ refl refl (omega arith)
+returns c = number_some _ _ c.number_len-len.ensures _ _ refl refl refl refl (omega arith)

@@ -1,0 +1,9 @@
+use Rattle.lines.specs.Kinds.{Cut}
+use Rattle.lines.proofs.Lining.{no_form, cut_of}
+use Rattle.lines.proofs.reader.LineReader.cut.Goals as goal
+
+pub returns-in_err-number : goal.returns-in_err-number
+returns-in_err-number c = rw c.from_residual-in_err-number.ensures (no_form Cut c.in_ok-pass.ensures c.in_err-number.ensures)
+
+pub returns : goal.returns
+returns c = cut_of c.in_ok-number.number c.in_ok-number.quantity c.in_ok-pass.ensures c.in_ok-number.ensures
