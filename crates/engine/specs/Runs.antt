@@ -1,24 +1,28 @@
 -- What a run of calls promises. Assumes nothing.
-use Rattle.std.specs.Prelude.{◌≡◌, ℕ, ◌+◌, ◌≤◌, List}
+use Rattle.std.specs.Prelude.{◌≡◌, ℕ, ◌+◌, ◌≤◌, List, Ok, Err, Result}
 use Rattle.note.specs.declared.trades.Trade.{Trade}
 use Rattle.book.specs.Meaning.{Book}
 use Rattle.trading.specs.declared.calls.Call.{Call}
 use Rattle.trading.specs.declared.answers.Answer.{Answer}
-use Rattle.trading.specs.declared.answers.Answer.TheVariants.{Entered, Cut, Withdrawn, Indicated, Uncrossed, Refused}
+use Rattle.trading.specs.declared.answers.Answer.TheVariants.{Entered, Cut, Withdrawn, Indicated, Uncrossed}
+use Rattle.trading.specs.declared.refusals.Refusal.{Refusal}
 use Rattle.trading.specs.Replies.{read_all, log_of}
 use Rattle.trading.specs.Law.{Law}
 
 -- an answer's trades stand within the first n of the log
-abbrev pub Within : ℕ → Answer → Type 0
-Within n (Entered number) = Unit {0}
-Within n Cut = Unit {0}
-Within n Withdrawn = Unit {0}
-Within n (Indicated told) = Unit {0}
-Within n (Uncrossed told first count) = first + count ≤ n
-Within n (Refused why) = Unit {0}
+abbrev pub Inside : ℕ → Answer → Type 0
+Inside n (Entered number) = Unit {0}
+Inside n Cut = Unit {0}
+Inside n Withdrawn = Unit {0}
+Inside n (Indicated told) = Unit {0}
+Inside n (Uncrossed told first count) = first + count ≤ n
+
+abbrev pub Within : ℕ → Result Answer Refusal → Type 0
+Within n (Ok answer) = Inside n answer
+Within n (Err why) = Unit {0}
 
 -- What a caller reads of the answers and the log obeys the law, and the log is the trades of all uncrossings.
-pub record Ran (tick scarcity : ℕ) (m : Book) (register : List Trade) (cs : List Call) (answers : List Answer) (log : List Trade) (m' : Book) (register' : List Trade) : Type 0 where
+pub record Ran (tick scarcity : ℕ) (m : Book) (register : List Trade) (cs : List Call) (answers : List (Result Answer Refusal)) (log : List Trade) (m' : Book) (register' : List Trade) : Type 0 where
   pub law : Law tick scarcity m register cs (read_all log answers) m' register'
   pub logged : log ≡ log_of (read_all log answers)
 

@@ -1,10 +1,10 @@
 // What a run leaves to read.
 use note::Trade;
-use trading::Answer;
+use trading::{Answer, Refusal};
 
-/// The answers to a list of calls, and the trades of all its uncrossings, one behind the other.
+/// The answer or the refusal of each call of a list, and the trades of all its uncrossings, one behind the other.
 #[derive(Drop)]
 pub struct Journal {
-    pub answers: Vec<Answer>,
+    pub answers: Vec<Result<Answer, Refusal>>,
     pub trades: Vec<Trade>,
 }

@@ -6,6 +6,7 @@ ghost use Rattle.engine.specs.Runs.{Within, Ran, NotRan};
 
 use crate::journals::Journal;
 use crate::messages::{cut, entry, withdrawal};
+use crate::uncrossed::Uncrossed;
 use crate::uncrossings::uncrossing;
 use book::{MAX_PLACES, OrderBook};
 use note::Trade;
@@ -31,7 +32,7 @@ fn uncross_into<B: OrderBook>(
     session: Session,
     register: &mut [Trade],
     log: &mut Vec<Trade>,
-) -> Answer
+) -> Result<Answer, Refusal>
     requires { vec_len log.old + length (B.meaning book.old).orders + 1 ≤ vec_capacity log.old }
     ensures reply { read log.new.items result ≡ (outcome session.tick session.scarcity (length register.old) (B.meaning book.old) AskUncrossing).reply }
     ensures after { B.meaning book.new ≡ (outcome session.tick session.scarcity (length register.old) (B.meaning book.old) AskUncrossing).after }
@@ -40,19 +41,10 @@ fn uncross_into<B: OrderBook>(
     ensures capacity { vec_capacity log.new ≡ vec_capacity log.old }
     ensures within { Within (vec_len log.new) result }
 {
-    match uncrossing(book, session, register) {
-        Ok(done) => {
-            let first = log.len();
-            let count = done.count;
-            append(log, &register[0..count]);
-            Answer::Uncrossed {
-                told: done.told,
-                first,
-                count,
-            }
-        }
-        Err(why) => Answer::Refused(why),
-    }
+    let Uncrossed { told, count } = uncrossing(book, session, register)?;
+    let first = log.len();
+    append(log, &register[0..count]);
+    Ok(Answer::Uncrossed { told, first, count })
 }
 
 /// Carries out one call, and adds the trades of an uncrossing to the log.
@@ -62,7 +54,7 @@ fn carry_out<B: OrderBook>(
     call: Call,
     register: &mut [Trade],
     log: &mut Vec<Trade>,
-) -> Answer
+) -> Result<Answer, Refusal>
     requires { vec_len log.old + length (B.meaning book.old).orders + 1 ≤ vec_capacity log.old }
     ensures reply { read log.new.items result ≡ (outcome session.tick session.scarcity (length register.old) (B.meaning book.old) call).reply }
     ensures after { B.meaning book.new ≡ (outcome session.tick session.scarcity (length register.old) (B.meaning book.old) call).after }
@@ -71,29 +63,23 @@ fn carry_out<B: OrderBook>(
     ensures capacity { vec_capacity log.new ≡ vec_capacity log.old }
     ensures within { Within (vec_len log.new) result }
 {
-    match call {
+    Ok(match call {
         Call::Entry {
             side,
             quantity,
             price,
-        } => match entry(book, session, side, quantity, price) {
-            Ok(number) => Answer::Entered(number),
-            Err(why) => Answer::Refused(why),
-        },
-        Call::Cut { number, quantity } => match cut(book, number, quantity) {
-            Ok(()) => Answer::Cut,
-            Err(why) => Answer::Refused(why),
-        },
-        Call::Withdrawal { number } => match withdrawal(book, number) {
-            Ok(()) => Answer::Withdrawn,
-            Err(why) => Answer::Refused(why),
-        },
-        Call::Indication => match indication(book, session) {
-            Ok(told) => Answer::Indicated(told),
-            Err(why) => Answer::Refused(Refusal::Session(why)),
-        },
-        Call::Uncrossing => uncross_into(book, session, register, log),
-    }
+        } => Answer::Entered(entry(book, session, side, quantity, price)?),
+        Call::Cut { number, quantity } => {
+            cut(book, number, quantity)?;
+            Answer::Cut
+        }
+        Call::Withdrawal { number } => {
+            withdrawal(book, number)?;
+            Answer::Withdrawn
+        }
+        Call::Indication => Answer::Indicated(indication(book, session)?),
+        Call::Uncrossing => uncross_into(book, session, register, log)?,
+    })
 }
 
 /// Carries out the calls in turn and answers each. Where there is no memory for the answers and trades, nothing is carried out.

@@ -18,7 +18,7 @@ use Rattle.price.specs.Indications.{indication_answer}
 use Rattle.trading.specs.declared.calls.Call.{Call}
 use Rattle.trading.specs.declared.calls.Call.TheVariants.{Entry, Cut, Withdrawal, Indication as AskIndication, Uncrossing}
 use Rattle.trading.specs.declared.answers.Answer.{Answer}
-use Rattle.trading.specs.declared.answers.Answer.TheVariants.{Entered, Cut as WasCut, Withdrawn, Indicated, Uncrossed, Refused}
+use Rattle.trading.specs.declared.answers.Answer.TheVariants.{Entered, Cut as WasCut, Withdrawn, Indicated, Uncrossed}
 use Rattle.trading.specs.declared.refusals.Refusal.{Refusal}
 use Rattle.trading.specs.declared.refusals.Refusal.TheVariants.{Book as OfBook, Session as OfSession}
 
@@ -135,14 +135,17 @@ log_of [] = []
 log_of (r ∷ rs) = trades_of r ++ log_of rs
 
 -- what a caller reads of an answer and the log
-abbrev pub read : List Trade → Answer → Reply
-read log (Entered n) = entered n
-read log WasCut = was_cut
-read log Withdrawn = withdrawn
-read log (Indicated told) = indicated told
-read log (Uncrossed told first count) = uncrossed told (take count (drop first log))
-read log (Refused why) = refused why
+abbrev pub told_by : List Trade → Answer → Reply
+told_by log (Entered n) = entered n
+told_by log WasCut = was_cut
+told_by log Withdrawn = withdrawn
+told_by log (Indicated told) = indicated told
+told_by log (Uncrossed told first count) = uncrossed told (take count (drop first log))
 
-unfoldable pub read_all : List Trade → List Answer → List Reply
+abbrev pub read : List Trade → Result Answer Refusal → Reply
+read log (Ok answer) = told_by log answer
+read log (Err why) = refused why
+
+unfoldable pub read_all : List Trade → List (Result Answer Refusal) → List Reply
 read_all log [] = []
 read_all log (a ∷ answers) = read log a ∷ read_all log answers

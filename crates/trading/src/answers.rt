@@ -1,8 +1,7 @@
 // What is answered.
-use crate::refusals::Refusal;
 use price::Indication;
 
-/// The answer to a call.
+/// The answer to a call that is not refused.
 #[derive(Clone, Copy, Debug, PartialEq, Eq)]
 pub enum Answer {
     /// The number that the order got.
@@ -21,6 +20,4 @@ pub enum Answer {
         /// How many trades it made.
         count: usize,
     },
-    /// Nothing was done.
-    Refused(Refusal),
 }

@@ -38,17 +38,19 @@ impl From<SessionRefusal> for Refusal {
     }
 }
 
-impl Refusal {
-    /// The refusal's number.
-    pub fn code(self) -> u8
-        ensures { result ≡ number_of self }
-    {
-        match self {
-            Refusal::Book(cause) => cause.code(),
+/// The refusal's number.
+impl From<Refusal> for u8 {
+    ghost from_gives = { λ why code. code ≡ number_of why };
+
+    fn from(why: Refusal) -> u8 {
+        match why {
+            Refusal::Book(cause) => u8::from(cause),
             Refusal::Session(cause) => u8::from(cause),
         }
     }
+}
 
+impl Refusal {
     /// The layer that refused.
     pub fn layer(self) -> Layer
         ensures { result ≡ layer_of self }
