@@ -35,7 +35,7 @@ pub struct Heading {
 pub(crate) fn in_range(n: u32, most: u32) -> bool
     ensures { result ≡ within most n }
 {
-    1 <= n && n <= most
+    (1..=most).contains(&n)
 }
 
 impl Trade {

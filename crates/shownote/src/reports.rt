@@ -51,9 +51,8 @@ fn trade_line(heap: Global, k: usize, trade: Trade) -> Result<String, AllocError
 fn refusal_line(heap: Global, why: NoteRefusal) -> Result<String, AllocError>
     ensures { IfOk result (λ text. string_bytes text ≡ refusal_text why) }
 {
-    let code = why.code();
-    let reason = why.reason();
-    format!(in heap; "refused {code} {reason}\n")
+    let code = u8::from(why);
+    format!(in heap; "refused {code} {why}\n")
 }
 
 /// Adds the lines of a note's trades to the text.
