@@ -14,11 +14,3 @@ module _ (bytes : List ℕ) (n : Note) (is : read_note bytes ≡ Ok n) where
   pub register_placed : (register : List Trade) → length n.trades ≤ length register → read_register bytes register ≡ n.trades ++ drop (length n.trades) register
   register_placed register h =
       ap (λ r. filled r register) is ∙ cond-true (leb (length n.trades) (length register)) (n.trades ++ drop (length n.trades) register) register (le-leb (length n.trades) (length register) h)
-
-  pub answer_short : (places : ℕ) → places < length n.trades → read_answer bytes places ≡ Err RegisterShort
-  answer_short places h =
-      ap (λ r. onward r (placed places)) is ∙ cond-false (leb (length n.trades) places) (Ok (record { price = n.price; count = length n.trades })) (Err RegisterShort) (lt-leb (length n.trades) places h)
-
-  pub register_short : (register : List Trade) → length register < length n.trades → read_register bytes register ≡ register
-  register_short register h =
-      ap (λ r. filled r register) is ∙ cond-false (leb (length n.trades) (length register)) (n.trades ++ drop (length n.trades) register) register (lt-leb (length n.trades) (length register) h)

@@ -50,8 +50,9 @@ pub(crate) fn write_number(place: &mut [u8], n: u32)
     ensures { place.new ≡ encoded n }
 {
     let mut rest = n;
+    // Always so: no encoding is empty.
     if let Some((last, others)) = place.split_last_mut() {
-        for byte in others.iter_mut() {
+        for byte in others {
             *byte = (rest & GROUP as u32) as u8 | MORE;
             rest >>= 7;
         }

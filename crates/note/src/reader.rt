@@ -81,7 +81,7 @@ impl<'a> NoteReader<'a> {
     fn store_trades(&mut self, places: &mut [Trade]) -> Result<(), NoteRefusal>
         ensures { Took (read_trades (length places.old)) self.old self.new (carrying result places.new) }
     {
-        for place in places.iter_mut() {
+        for place in places {
             *place = self.trade()?;
         }
         Ok(())

@@ -59,6 +59,7 @@ fn write_trades(place: &mut [u8], trades: &[Trade])
     requires { length place.old ≡ length (trades_bytes trades.now) }
     ensures { place.new ≡ trades_bytes trades.now }
 {
+    // The ends are kept, since nothing is known after a loop of a place that went on as the rest of a `split_at_mut`.
     let mut end = 0usize;
     for trade in trades {
         let start = end;
@@ -71,6 +72,7 @@ fn write_trades(place: &mut [u8], trades: &[Trade])
 ///
 /// Refused as out of range if the price, the count, or an order number or a quantity of these trades is, if a trade's two
 /// numbers are equal or if the register has fewer trades; then if the buffer is short. A refusal leaves the buffer as it was.
+// The count stands beside the register, which a caller keeps longer than its trades: a wrong count is judged and refused.
 pub fn write_note(
     price: u32,
     count: usize,

@@ -6,16 +6,11 @@ ghost use Rattle.note.specs.Reading.{read_note};
 use note::{MAX_TRADES, NoteReader, NoteRefusal, Trade};
 use std::alloc::{AllocError, Global};
 
-/// The total of contracts of a note's trades.
-fn total(trades: &[Trade]) -> u64
-    requires { length trades.now ≤ 255 }
+/// The total of contracts of some trades, in a type that holds it for any slice of trades.
+fn total(trades: &[Trade]) -> u128
     ensures { result ≡ contracts trades.now }
 {
-    let mut sum = 0u64;
-    for trade in trades {
-        sum += u64::from(trade.quantity);
-    }
-    sum
+    trades.iter().map(|trade| u128::from(trade.quantity)).sum()
 }
 
 /// The lines of the price.
@@ -29,7 +24,7 @@ fn price_lines(heap: Global, price: u32) -> Result<String, AllocError>
 }
 
 /// The lines of the count of trades and the total of contracts.
-fn count_lines(heap: Global, count: usize, total: u64) -> Result<String, AllocError>
+fn count_lines(heap: Global, count: usize, total: u128) -> Result<String, AllocError>
     ensures { IfOk result (λ text. string_bytes text ≡ counts_text count total) }
 {
     format!(in heap; "trades {count}\ncontracts {total}\n")
@@ -57,7 +52,6 @@ fn refusal_line(heap: Global, why: NoteRefusal) -> Result<String, AllocError>
 
 /// Adds the lines of a note's trades to the text.
 fn push_trades(heap: Global, text: &mut String, trades: &[Trade]) -> Result<(), AllocError>
-    requires { length trades.now ≤ 255 }
     ensures { OnOk result (string_bytes text.new ≡ string_bytes text.old ++ trades_text 1 trades.now) }
 {
     for (i, trade) in trades.iter().enumerate() {
@@ -69,7 +63,6 @@ fn push_trades(heap: Global, text: &mut String, trades: &[Trade]) -> Result<(), 
 
 /// The lines of a note.
 fn note_lines(heap: Global, price: u32, trades: &[Trade]) -> Result<String, AllocError>
-    requires { length trades.now ≤ 255 }
     ensures { IfOk result (λ text. string_bytes text ≡ note_text price trades.now) }
 {
     let mut text = price_lines(heap, price)?;

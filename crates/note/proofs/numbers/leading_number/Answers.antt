@@ -9,15 +9,6 @@ loop-place-init c = begin _
 pub returns-then-is_misplaced : goal.returns-then-is_misplaced
 returns-then-is_misplaced c = sym (refused c.loop-place.invariant (omega arith) (omega arith) (sym c.if-is_misplaced.ensures))
 
-pub overflow_mul-value : goal.overflow_mul-value
-overflow_mul-value c = omega (arith, c.loop-place.invariant.few)
-
-pub overflow_cast-value : goal.overflow_cast-value
-overflow_cast-value c = omega (arith, c.loop-place.invariant.few)
-
-pub overflow_shl-value : goal.overflow_shl-value
-overflow_shl-value c = omega (arith, c.loop-place.invariant.few)
-
 pub loop-place-preserved : goal.loop-place-preserved
 loop-place-preserved c =
     let i = c.loop-place.place in

@@ -2,9 +2,6 @@ use Rattle.std.proofs.Common.{refl, arith}
 use Rattle.note.proofs.Putting.{more, small, last, group_byte}
 use Rattle.note.proofs.numbers.write_number.Goals as goal
 
-pub loop-byte-init : goal.loop-byte-init
-loop-byte-init c = record { whole = refl; long = omega (arith, c.in-Some.ensures.cases.1) }
-
 pub loop-byte-preserved : goal.loop-byte-preserved
 loop-byte-preserved c = more c.loop-byte.invariant (omega arith) _ (group_byte c.loop-byte.rest)
 

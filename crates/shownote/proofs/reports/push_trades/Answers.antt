@@ -3,9 +3,6 @@ use Rattle.shownote.specs.Reports.{trades_text}
 use Rattle.shownote.proofs.Totals.{text_more, text_all}
 use Rattle.shownote.proofs.reports.push_trades.Goals as goal
 
-pub loop-i-init : goal.loop-i-init
-loop-i-init c = refl
-
 pub loop-i-preserved : goal.loop-i-preserved
 loop-i-preserved c =
     let ts = c.args.trades.now in

@@ -19,10 +19,10 @@ pub loop-place-preserved : goal.loop-place-preserved
 loop-place-preserved c =
     let less = length c.args.places.now - (c.loop-place.place-index + 1) in
     let step = read_more (length c.args.places.now - c.loop-place.place-index) less _ (omega arith) _ c.in_ok-place.ensures in
-    c.loop-place.invariant ∙ step ∙ ap (λ done. after_done done (read_trades less c.trade.new.self)) (sym (take_more_set c.loop-place.places c.loop-place.place-index c.in_ok-place.field-0 (omega arith)))
+    c.loop-place.invariant ∙ step ∙ ap (λ done. after_done done (read_trades less c.trade.new.self)) (sym (take_more_set c.loop-place.place-items c.loop-place.place-index c.in_ok-place.field-0 (omega arith)))
 
 pub returns : goal.returns
 returns c =
-    let all = take_all c.loop-place.place-index c.loop-place.places (omega arith) in
-    let none = read_none (length c.args.places.now - c.loop-place.place-index) (take c.loop-place.place-index c.loop-place.places) c.loop-place.self (omega arith) in
+    let all = take_all c.loop-place.place-index c.loop-place.place-items (omega arith) in
+    let none = read_none (length c.args.places.now - c.loop-place.place-index) (take c.loop-place.place-index c.loop-place.place-items) c.loop-place.self (omega arith) in
     rw all at (sym (c.loop-place.invariant ∙ none))

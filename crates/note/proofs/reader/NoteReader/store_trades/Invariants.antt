@@ -5,4 +5,4 @@ use Rattle.note.proofs.reader.NoteReader.store_trades.Given as goal
 
 abbrev pub invariant-loop-place : goal.invariant-loop-place
 invariant-loop-place l =
-    read_trades (length l.initial.places) l.initial.self ≡ after_done (take l.place-index l.places) (read_trades (length l.initial.places - l.place-index) l.self)
+    read_trades (length l.initial.place-items) l.initial.self ≡ after_done (take l.place-index l.place-items) (read_trades (length l.initial.place-items - l.place-index) l.self)
