@@ -1,6 +1,6 @@
 -- What is answered and stored of a note that was read. Assumes nothing.
-use Rattle.std.proofs.Common.{◌≡◌, ℕ, ◌<◌, ◌≤◌, leb, List, ◌++◌, length, drop, Ok, Err, ap, ◌∙◌}
-use Rattle.std.proofs.lemmas.Bool.{le-leb, lt-leb, cond-true, cond-false}
+use Rattle.std.proofs.Common.{◌≡◌, ℕ, ◌≤◌, leb, List, ◌++◌, length, drop, Ok, Err, ap, ◌∙◌}
+use Rattle.std.proofs.lemmas.Bool.{le-leb, cond-true}
 use Rattle.note.specs.declared.refusals.NoteRefusal.TheVariants.{RegisterShort}
 use Rattle.note.specs.declared.trades.Trade.{Trade}
 use Rattle.note.specs.Notes.{Note}

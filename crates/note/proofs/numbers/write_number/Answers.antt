@@ -1,4 +1,4 @@
-use Rattle.std.proofs.Common.{refl, arith}
+use Rattle.std.proofs.Common.{arith}
 use Rattle.note.proofs.Putting.{more, small, last, group_byte}
 use Rattle.note.proofs.numbers.write_number.Goals as goal
 
