@@ -82,7 +82,7 @@ pub(crate) fn run_listing(rt: &HostRuntime) -> anyhow::Result<()> {
     let mut bytes = [0u8; 9];
     match write_note(10_000, 2, &register, &mut bytes) {
         Ok(len) => println!(rt; "note of {len} bytes: {bytes:?}")?,
-        Err(why) => println!(rt; "refused {}", why.code())?,
+        Err(why) => println!(rt; "refused {}", u8::from(why))?,
     }
     println!(rt;
         "last place {} {} {}",

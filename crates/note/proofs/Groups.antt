@@ -53,14 +53,13 @@ above_more k shift value low (Some (m, rest)) =
     (cases_lt 0 m)
 
 -- k groups of the bytes are read, and come to `value`
-pub record Sofar (bytes : List ℕ) (k shift value : ℕ) : Type 0 where
-  pub shifts : shift ≡ 7 * k
+pub record Sofar (bytes : List ℕ) (k value : ℕ) : Type 0 where
   pub few : k ≤ 4
-  pub small : value < 2 ^ shift
-  pub whole : leading bytes ≡ above k shift value (leading (drop k bytes))
+  pub small : value < 2 ^ (7 * k)
+  pub whole : leading bytes ≡ above k (7 * k) value (leading (drop k bytes))
 
-pub begin : (bytes : List ℕ) → Sofar bytes 0 0 0
-begin bytes = record { shifts = refl; few = omega arith; small = omega arith; whole = sym (above_start (leading bytes)) }
+pub begin : (bytes : List ℕ) → Sofar bytes 0 0
+begin bytes = record { few = omega arith; small = omega arith; whole = sym (above_start (leading bytes)) }
 
 -- a group joined to what was read before, as the code does it
 pub with_next : (value b shift group : ℕ) → group ≡ bit_and b 127 → value < 2 ^ shift → value + b % 128 * 2 ^ shift < 2 ^ 32 → bit_or value ((group * 2 ^ shift) % 2 ^ 32) ≡ value + b % 128 * 2 ^ shift
@@ -95,54 +94,54 @@ large_rest low (Some (m, rest)) value shift e =
     ap (λ x. of_32_bits (above 4 shift value x)) none ∙ ap of_32_bits (above_none 4 shift value))
     (cases_lt 0 m)
 
-module _ {bytes : List ℕ} {k shift value : ℕ} (s : Sofar bytes k shift value) where
+module _ {bytes : List ℕ} {k value : ℕ} (s : Sofar bytes k value) where
   cut : (b : ℕ) → k < length bytes → b ≡ get_or bytes k 0 → drop k bytes ≡ b ∷ drop (k + 1) bytes
   cut b inside is = drop_more bytes k 0 inside ∙ ap (λ x. x ∷ drop (k + 1) bytes) (sym is)
 
   -- a group in its place leaves the value within 32 bits
-  pub holds : (b : ℕ) → (k ≡ 4 → b % 128 ≤ 15) → value + b % 128 * 2 ^ shift < 2 ^ 32
+  pub holds : (b : ℕ) → (k ≡ 4 → b % 128 ≤ 15) → value + b % 128 * 2 ^ (7 * k) < 2 ^ 32
   holds b top =
       ⊎_elim
       (λ below.
-      let less : 2 ^ shift ≤ 2 ^ 21 = pow_mono {i = shift} {j = 21} (omega (arith, s.shifts)) in
-      omega (arith, s.small, mul-le (b % 128) (2 ^ shift) 127 (2 ^ 21) (omega arith) less))
+      let less : 2 ^ (7 * k) ≤ 2 ^ 21 = pow_mono {i = 7 * k} {j = 21} (omega arith) in
+      omega (arith, s.small, mul-le (b % 128) (2 ^ (7 * k)) 127 (2 ^ 21) (omega arith) less))
       (λ at.
       let there : k ≡ 4 = omega (arith, s.few) in
-      let e : shift ≡ 28 = omega (arith, s.shifts) in
-      let p : 2 ^ shift ≡ 2 ^ 28 = ap (λ x. 2 ^ x) e in
-      omega (arith, s.small, top there, mul-le (b % 128) (2 ^ shift) 15 (2 ^ 28) (top there) (omega arith)))
+      let e : (7 * k) ≡ 28 = omega arith in
+      let p : 2 ^ (7 * k) ≡ 2 ^ 28 = ap (λ x. 2 ^ x) e in
+      omega (arith, s.small, top there, mul-le (b % 128) (2 ^ (7 * k)) 15 (2 ^ 28) (top there) (omega arith)))
       (cases_lt k 4)
 
-  pub more : (b : ℕ) → k < 4 → k < length bytes → b ≡ get_or bytes k 0 → 128 ≤ b → b < 256 → Sofar bytes (k + 1) (shift + 7) (value + b % 128 * 2 ^ shift)
+  pub more : (b : ℕ) → k < 4 → k < length bytes → b ≡ get_or bytes k 0 → 128 ≤ b → b < 256 → Sofar bytes (k + 1) (value + b % 128 * 2 ^ (7 * k))
   more b few inside is high fits =
-      let power : 2 ^ (shift + 7) ≡ 2 ^ shift * 128 = pow-add 2 shift 7 in
+      let seven : 7 * (k + 1) ≡ 7 * k + 7 = omega arith in
+      let power : 2 ^ (7 * (k + 1)) ≡ 2 ^ (7 * k) * 128 = ap (λ x. 2 ^ x) seven ∙ pow-add 2 (7 * k) 7 in
       let low : b - 128 ≡ b % 128 = omega arith in
       record {
-        shifts = omega (arith, s.shifts);
         few = omega arith;
-        small = omega (arith, s.small, mul-le (b % 128) (2 ^ shift) 127 (2 ^ shift) (omega arith) (omega arith));
-        whole = s.whole ∙ ap (λ x. above k shift value (leading x)) (cut b inside is) ∙ ap (above k shift value) (leading_more b (drop (k + 1) bytes) high fits) ∙ ap (λ x. above k shift value (with_group x (leading (drop (k + 1) bytes)))) low ∙ above_more k shift value (b % 128) (leading (drop (k + 1) bytes));
+        small = omega (arith, s.small, mul-le (b % 128) (2 ^ (7 * k)) 127 (2 ^ (7 * k)) (omega arith) (omega arith));
+        whole = s.whole ∙ ap (λ x. above k (7 * k) value (leading x)) (cut b inside is) ∙ ap (above k (7 * k) value) (leading_more b (drop (k + 1) bytes) high fits) ∙ ap (λ x. above k (7 * k) value (with_group x (leading (drop (k + 1) bytes)))) low ∙ above_more k (7 * k) value (b % 128) (leading (drop (k + 1) bytes)) ∙ ap (λ x. above (k + 1) x (value + b % 128 * 2 ^ (7 * k)) (leading (drop (k + 1) bytes))) (sym seven);
       }
 
-  pub last : (b : ℕ) → k < length bytes → b ≡ get_or bytes k 0 → b < 128 → (0 < k → 0 < b) → (k ≡ 4 → b ≤ 15) → number bytes ≡ Some (value + b % 128 * 2 ^ shift, drop (k + 1) bytes)
+  pub last : (b : ℕ) → k < length bytes → b ≡ get_or bytes k 0 → b < 128 → (0 < k → 0 < b) → (k ≡ 4 → b ≤ 15) → number bytes ≡ Some (value + b % 128 * 2 ^ (7 * k), drop (k + 1) bytes)
   last b inside is low some top =
       let e : b ≡ b % 128 = omega arith in
       let fits = holds b (λ h. omega (arith, top h)) in
-      ap of_32_bits (s.whole ∙ ap (λ x. above k shift value (leading x)) (cut b inside is) ∙ ap (above k shift value) (leading_last b (drop (k + 1) bytes) low) ∙ above_some k shift value b (drop (k + 1) bytes) some ∙ ap (λ x. Some (value + x * 2 ^ shift, drop (k + 1) bytes)) e) ∙ cond-true (ltb (value + b % 128 * 2 ^ shift) (2 ^ 32)) (Some (value + b % 128 * 2 ^ shift, drop (k + 1) bytes)) None (lt-ltb (value + b % 128 * 2 ^ shift) (2 ^ 32) fits)
+      ap of_32_bits (s.whole ∙ ap (λ x. above k (7 * k) value (leading x)) (cut b inside is) ∙ ap (above k (7 * k) value) (leading_last b (drop (k + 1) bytes) low) ∙ above_some k (7 * k) value b (drop (k + 1) bytes) some ∙ ap (λ x. Some (value + x * 2 ^ (7 * k), drop (k + 1) bytes)) e) ∙ cond-true (ltb (value + b % 128 * 2 ^ (7 * k)) (2 ^ 32)) (Some (value + b % 128 * 2 ^ (7 * k), drop (k + 1) bytes)) None (lt-ltb (value + b % 128 * 2 ^ (7 * k)) (2 ^ 32) fits)
 
   over_long : 0 < k → k < length bytes → get_or bytes k 0 ≡ 0 → number bytes ≡ None
   over_long some inside is =
-      ap of_32_bits (s.whole ∙ ap (λ x. above k shift value (leading x)) (cut 0 inside (sym is)) ∙ ap (above k shift value) (leading_last 0 (drop (k + 1) bytes) (omega arith)) ∙ above_zero k shift value (drop (k + 1) bytes) some)
+      ap of_32_bits (s.whole ∙ ap (λ x. above k (7 * k) value (leading x)) (cut 0 inside (sym is)) ∙ ap (above k (7 * k) value) (leading_last 0 (drop (k + 1) bytes) (omega arith)) ∙ above_zero k (7 * k) value (drop (k + 1) bytes) some)
 
   too_large : k ≡ 4 → k < length bytes → 15 < get_or bytes k 0 → get_or bytes k 0 < 256 → number bytes ≡ None
   too_large four inside big fits =
       let b = get_or bytes k 0 in
-      let e : shift ≡ 28 = omega (arith, s.shifts) in
-      let p : 2 ^ shift ≡ 2 ^ 28 = ap (λ x. 2 ^ x) e in
-      let there = s.whole ∙ ap (λ x. above k shift value (leading x)) (cut b inside refl) in
+      let e : (7 * k) ≡ 28 = omega arith in
+      let p : 2 ^ (7 * k) ≡ 2 ^ 28 = ap (λ x. 2 ^ x) e in
+      let there = s.whole ∙ ap (λ x. above k (7 * k) value (leading x)) (cut b inside refl) in
       ⊎_elim
-      (λ l. ap of_32_bits (there ∙ ap (above k shift value) (leading_last b (drop (k + 1) bytes) l) ∙ above_some k shift value b (drop (k + 1) bytes) (λ _. omega arith)) ∙ wide (value + b * 2 ^ shift) (drop (k + 1) bytes) (omega (arith, mul-le 16 (2 ^ 28) b (2 ^ shift) (omega arith) (omega arith))))
-      (λ l. ap of_32_bits (there ∙ ap (above k shift value) (leading_more b (drop (k + 1) bytes) l fits)) ∙ ap (λ x. of_32_bits (above x shift value (with_group (b - 128) (leading (drop (k + 1) bytes))))) four ∙ large_rest (b - 128) (leading (drop (k + 1) bytes)) value shift e)
+      (λ l. ap of_32_bits (there ∙ ap (above k (7 * k) value) (leading_last b (drop (k + 1) bytes) l) ∙ above_some k (7 * k) value b (drop (k + 1) bytes) (λ _. omega arith)) ∙ wide (value + b * 2 ^ (7 * k)) (drop (k + 1) bytes) (omega (arith, mul-le 16 (2 ^ 28) b (2 ^ (7 * k)) (omega arith) (omega arith))))
+      (λ l. ap of_32_bits (there ∙ ap (above k (7 * k) value) (leading_more b (drop (k + 1) bytes) l fits)) ∙ ap (λ x. of_32_bits (above x (7 * k) value (with_group (b - 128) (leading (drop (k + 1) bytes))))) four ∙ large_rest (b - 128) (leading (drop (k + 1) bytes)) value (7 * k) e)
       (cases_lt b 128)
 
   pub refused : k < length bytes → get_or bytes k 0 < 256 → misplaced k (get_or bytes k 0) ≡ true → number bytes ≡ None
@@ -154,4 +153,4 @@ module _ {bytes : List ℕ} {k shift value : ℕ} (s : Sofar bytes k shift value
       (or_cases (ltb 0 k && eqb b 0) (eqb k 4 && ltb 15 b) h)
 
   pub cut_off : length bytes ≡ k → number bytes ≡ None
-  cut_off end = ap of_32_bits (s.whole ∙ ap (λ x. above k shift value (leading x)) (drop_all k bytes (omega arith)) ∙ ap (above k shift value) leading_nil ∙ above_none k shift value)
+  cut_off end = ap of_32_bits (s.whole ∙ ap (λ x. above k (7 * k) value (leading x)) (drop_all k bytes (omega arith)) ∙ ap (above k (7 * k) value) leading_nil ∙ above_none k (7 * k) value)

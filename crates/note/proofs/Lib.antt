@@ -4,11 +4,11 @@ mod Round
 mod Listing
 mod Putting
 mod Placing
+mod Deciding
+mod Written
+pub mod Outcome
+pub mod Figures
 mod Taking
 mod Trading
 mod Judging
-mod Deciding
-mod Written
 mod Answering
-pub mod Outcome
-pub mod Figures

@@ -1,6 +1,6 @@
 -- What is answered and stored of a note that was read. Assumes nothing.
-use Rattle.std.proofs.Common.{◌≡◌, ℕ, ◌<◌, ◌≤◌, leb, List, ◌++◌, length, drop, Ok, Err, ap, ◌∙◌}
-use Rattle.std.proofs.lemmas.Bool.{le-leb, lt-leb, cond-true, cond-false}
+use Rattle.std.proofs.Common.{◌≡◌, ℕ, ◌≤◌, leb, List, ◌++◌, length, drop, Ok, Err, ap, ◌∙◌}
+use Rattle.std.proofs.lemmas.Bool.{le-leb, cond-true}
 use Rattle.note.specs.declared.refusals.NoteRefusal.TheVariants.{RegisterShort}
 use Rattle.note.specs.declared.trades.Trade.{Trade}
 use Rattle.note.specs.Notes.{Note}
@@ -14,11 +14,3 @@ module _ (bytes : List ℕ) (n : Note) (is : read_note bytes ≡ Ok n) where
   pub register_placed : (register : List Trade) → length n.trades ≤ length register → read_register bytes register ≡ n.trades ++ drop (length n.trades) register
   register_placed register h =
       ap (λ r. filled r register) is ∙ cond-true (leb (length n.trades) (length register)) (n.trades ++ drop (length n.trades) register) register (le-leb (length n.trades) (length register) h)
-
-  pub answer_short : (places : ℕ) → places < length n.trades → read_answer bytes places ≡ Err RegisterShort
-  answer_short places h =
-      ap (λ r. onward r (placed places)) is ∙ cond-false (leb (length n.trades) places) (Ok (record { price = n.price; count = length n.trades })) (Err RegisterShort) (lt-leb (length n.trades) places h)
-
-  pub register_short : (register : List Trade) → length register < length n.trades → read_register bytes register ≡ register
-  register_short register h =
-      ap (λ r. filled r register) is ∙ cond-false (leb (length n.trades) (length register)) (n.trades ++ drop (length n.trades) register) register (lt-leb (length n.trades) (length register) h)

@@ -1,16 +1,15 @@
--- What a loop over the trades of a note keeps. Assumes nothing.
-use Rattle.std.proofs.Common.{◌≡◌, ℕ, suc, List, [], ◌∷◌, ◌++◌, drop, Ok, Err, Result, sym, refl, ap, ◌∙◌, append_assoc, append-nil}
+-- What a loop over the trades of a note keeps: the trades that are done, and what is read of those that are left. Assumes nothing.
+use Rattle.std.proofs.Common.{◌≡◌, ℕ, suc, List, [], ◌∷◌, ◌++◌, Ok, Err, Result, sym, refl, ap, ◌∙◌, append_assoc, append-nil}
 use Rattle.note.specs.declared.refusals.NoteRefusal.{NoteRefusal}
 use Rattle.note.specs.declared.trades.Trade.{Trade}
 use Rattle.note.specs.Reading.{onward, read_trade, read_trades}
-use Rattle.note.specs.Steps.{Took}
-use Rattle.note.proofs.Taking.{took_next}
+use Rattle.note.specs.Steps.{passed, pass_trades}
 
 -- the trades after those that are done
-abbrev after_done : List Trade → Result (List Trade × List ℕ) NoteRefusal → Result (List Trade × List ℕ) NoteRefusal
+abbrev pub after_done : List Trade → Result (List Trade × List ℕ) NoteRefusal → Result (List Trade × List ℕ) NoteRefusal
 after_done done r = onward r (λ others. Ok (done ++ others.0, others.1))
 
-after_none : (r : Result (List Trade × List ℕ) NoteRefusal) → after_done [] r ≡ r
+pub after_none : (r : Result (List Trade × List ℕ) NoteRefusal) → r ≡ after_done [] r
 after_none (Ok x) = refl
 after_none (Err why) = refl
 
@@ -18,32 +17,32 @@ after_one : (done : List Trade) (t : Trade) (r : Result (List Trade × List ℕ)
 after_one done t (Ok x) = ap (λ ts. Ok (ts, x.1)) (sym (append_assoc done (t ∷ []) x.0))
 after_one done t (Err why) = refl
 
--- of `count` trades that are read from a position on, some are done and so many are left
-pub record Left (count : ℕ) (bytes : List ℕ) (from : ℕ) (bytes' : List ℕ) (to left : ℕ) (done : List Trade) : Type 0 where
-  pub same : bytes' ≡ bytes
-  pub whole : read_trades count (drop from bytes) ≡ after_done done (read_trades left (drop to bytes))
+-- none is left
+pub read_none : (left : ℕ) (done : List Trade) (bytes : List ℕ) → left ≡ 0 → after_done done (read_trades left bytes) ≡ Ok (done, bytes)
+unfolding read_trades
+read_none left done bytes none = ap (λ n. after_done done (read_trades n bytes)) none ∙ ap (λ ts. Ok (ts, bytes)) (append-nil done)
 
-pub begin : (count left : ℕ) (bytes : List ℕ) (from : ℕ) → count ≡ left → Left count bytes from bytes from left []
-begin count left bytes from is = record { same = refl; whole = ap (λ n. read_trades n (drop from bytes)) is ∙ sym (after_none (read_trades left (drop from bytes))) }
+pub pass_none : (left : ℕ) (bytes : List ℕ) → left ≡ 0 → pass_trades left bytes ≡ Ok (tt, bytes)
+unfolding read_trades
+pass_none left bytes none = ap (λ n. pass_trades n bytes) none
 
-module _ {count : ℕ} {bytes : List ℕ} {from : ℕ} {bytes' : List ℕ} {to : ℕ} {done : List Trade} where
-  pub all : {left : ℕ} → left ≡ 0 → Left count bytes from bytes' to left done → Took (read_trades count) bytes from bytes' to (Ok done)
+module _ (left less : ℕ) (bytes : List ℕ) (is : left ≡ suc less) where
+  -- one trade is read
+  pub read_more : (done : List Trade) {t : Trade} {rest : List ℕ} → Ok (t, rest) ≡ read_trade bytes → after_done done (read_trades left bytes) ≡ after_done (done ++ t ∷ []) (read_trades less rest)
   unfolding read_trades
-  all {left} none h =
-      record { same = h.same; value = sym (h.whole ∙ ap (λ n. after_done done (read_trades n (drop to bytes))) none ∙ ap (λ ts. Ok (ts, drop to bytes)) (append-nil done)) }
+  read_more done {t} {rest} e =
+      ap (λ n. after_done done (read_trades n bytes)) is ∙ ap (λ r. after_done done (onward r (λ first. onward (read_trades less first.1) (λ others. Ok (first.0 ∷ others.0, others.1))))) (sym e) ∙ after_one done t (read_trades less rest)
 
-  module _ {left : ℕ} (h : Left count bytes from bytes' to left done) (less : ℕ) (is : left ≡ suc less) where
-    next : read_trades count (drop from bytes) ≡ after_done done (read_trades (suc less) (drop to bytes))
-    next = h.whole ∙ ap (λ n. after_done done (read_trades n (drop to bytes))) is
+  pub pass_more : {t : Trade} {rest : List ℕ} → Ok (t, rest) ≡ read_trade bytes → pass_trades left bytes ≡ pass_trades less rest
+  pass_more {t} {rest} e = ap passed (after_none (read_trades left bytes) ∙ read_more [] e) ∙ by (read_trades less rest) where
+    by : (r : Result (List Trade × List ℕ) NoteRefusal) → passed (after_done (t ∷ []) r) ≡ passed r
+    by (Ok x) = refl
+    by (Err why) = refl
 
-    pub more : {bytes'' : List ℕ} {to'' : ℕ} {t : Trade} → Took read_trade bytes' to bytes'' to'' (Ok t) → Left count bytes from bytes'' to'' less (done ++ t ∷ [])
-    unfolding read_trades
-    more {bytes''} {to''} {t} took =
-        let here = took_next h.same took in
-        record { same = here.same; whole = next ∙ ap (λ r. after_done done (onward r (λ first. onward (read_trades less first.1) (λ others. Ok (first.0 ∷ others.0, others.1))))) (sym here.value) ∙ after_one done t (read_trades less (drop to'' bytes)) }
+  -- or refused
+  pub read_refused : (done : List Trade) {why : NoteRefusal} → Err why ≡ read_trade bytes → after_done done (read_trades left bytes) ≡ Err why
+  unfolding read_trades
+  read_refused done e = ap (λ n. after_done done (read_trades n bytes)) is ∙ ap (λ r. after_done done (onward r (λ first. onward (read_trades less first.1) (λ others. Ok (first.0 ∷ others.0, others.1))))) (sym e)
 
-    pub refused : {bytes'' : List ℕ} {to'' : ℕ} {why : NoteRefusal} → Took read_trade bytes' to bytes'' to'' (Err why) → Took (read_trades count) bytes from bytes'' to'' (Err why)
-    unfolding read_trades
-    refused took =
-        let here = took_next h.same took in
-        record { same = here.same; value = sym (next ∙ ap (λ r. after_done done (onward r (λ first. onward (read_trades less first.1) (λ others. Ok (first.0 ∷ others.0, others.1))))) (sym here.value)) }
+  pub pass_refused : {why : NoteRefusal} → Err why ≡ read_trade bytes → pass_trades left bytes ≡ Err why
+  pass_refused e = ap passed (after_none (read_trades left bytes) ∙ read_refused [] e)

@@ -1,7 +1,8 @@
 // Numbers in seven-bit groups, the lowest first, each but the last with its high bit set, in the fewest bytes.
-ghost use Rattle.std.specs.Prelude.{◌≡◌, ◌+◌, ◌≤◌, length, IfSome};
+ghost use Rattle.std.specs.Prelude.{◌≡◌, ◌≤◌, length};
+ghost use Rattle.std.specs.Option.{option_map};
 ghost use Rattle.note.specs.Numbers.{encoded, number};
-ghost use Rattle.note.specs.Steps.{misplaced, front_of, Put};
+ghost use Rattle.note.specs.Steps.{misplaced};
 
 /// The high bit of a byte: another group follows.
 const MORE: u8 = 0x80;
@@ -26,38 +27,35 @@ fn is_misplaced(place: usize, byte: u8) -> bool
     (place > 0 && byte == 0) || (place == 4 && byte > TOP)
 }
 
-/// The number at the front of the bytes and how many bytes it takes; `None` if it is cut off, over-long or too large.
-pub(crate) fn leading_number(bytes: &[u8]) -> Option<(u32, usize)>
-    ensures value { front_of bytes.now result ≡ number bytes.now }
-    ensures within { IfSome result (λ p. p.1 ≤ length bytes.now) }
+/// The number at the front of the bytes and the bytes after it; `None` if it is cut off, over-long or too large.
+pub(crate) fn leading_number(bytes: &[u8]) -> Option<(u32, &[u8])>
+    ensures { option_map (λ front. (front.0, front.1.now)) result ≡ number bytes.now }
 {
     let mut value = 0u32;
-    let mut shift = 0u32;
-    for (i, byte) in bytes.iter().enumerate() {
-        if is_misplaced(i, *byte) {
+    for (place, byte) in bytes.iter().enumerate() {
+        if is_misplaced(place, *byte) {
             return None;
         }
-        value |= u32::from(*byte & GROUP) << shift;
+        value |= u32::from(*byte & GROUP) << (7 * place);
         if *byte < MORE {
-            return Some((value, i + 1));
+            return Some((value, &bytes[place + 1..]));
         }
-        shift += 7;
     }
     None
 }
 
-/// Writes the encoding of `n` from `at` on, where there is room for it, and answers where it ends.
-pub(crate) fn write_number(buffer: &mut [u8], at: usize, n: u32) -> usize
-    requires { at + length (encoded n) ≤ length buffer.old }
-    ensures { Put buffer.old at (encoded n) buffer.new result }
+/// Writes the encoding of `n` into a place of just its length.
+pub(crate) fn write_number(place: &mut [u8], n: u32)
+    requires { length place.old ≡ length (encoded n) }
+    ensures { place.new ≡ encoded n }
 {
     let mut rest = n;
-    let mut end = at;
-    while rest >= MORE as u32 {
-        buffer[end] = (rest & GROUP as u32) as u8 | MORE;
-        rest >>= 7;
-        end += 1;
+    // Always so: no encoding is empty.
+    if let Some((last, others)) = place.split_last_mut() {
+        for byte in others {
+            *byte = (rest & GROUP as u32) as u8 | MORE;
+            rest >>= 7;
+        }
+        *last = rest as u8;
     }
-    buffer[end] = rest as u8;
-    end + 1
 }

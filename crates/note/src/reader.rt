@@ -1,51 +1,58 @@
 // Reads a note.
-ghost use Rattle.std.specs.Prelude.{◌≡◌, ◌≤◌, List, length, drop};
+ghost use Rattle.std.specs.Prelude.{◌≡◌, length};
 ghost use Rattle.note.specs.Notes.{within};
 ghost use Rattle.note.specs.Reading.{read_number, read_trade, read_trades, read_answer, read_register, Decided};
 ghost use Rattle.note.specs.Roundtrip.{Exact};
-ghost use Rattle.note.specs.Steps.{carrying, Took, Judged};
+ghost use Rattle.note.specs.Steps.{pass_trades, carrying, Took, Judged};
 
 use crate::numbers::leading_number;
 use crate::refusals::NoteRefusal;
-use crate::trades::{Heading, MAX_ORDER, MAX_PRICE, MAX_QUANTITY, MAX_TRADES, Trade, in_range};
+use crate::trades::{Heading, MAX_ORDER, MAX_PRICE, MAX_QUANTITY, MAX_TRADES, Trade};
+use std::marker::Model;
 
 /// So many bytes decide how they are read, whatever follows them. The longest note has three bytes fewer.
 pub const DECISIVE_LEN: usize = 2049;
 
-/// A note's bytes, and the position of the next byte to read.
+/// A reader of a note, which contracts see as the bytes that are left to read.
 #[derive(Drop)]
 pub struct NoteReader<'a> {
     bytes: &'a [u8],
-    position: usize,
-    ghost inside: { position ≤ length bytes.now },
+}
+
+impl<'a> Model for NoteReader<'a> {
+    ghost use Rattle.std.specs.Prelude.{ℕ, List};
+
+    ghost Value = { List ℕ };
+
+    ghost view = { λ reader. reader.bytes.now };
 }
 
 impl<'a> NoteReader<'a> {
     /// A reader at the first of the bytes.
     pub fn new(bytes: &'a [u8]) -> NoteReader<'a>
-        ensures start { result.position ≡ 0 }
-        ensures bytes { result.bytes.now ≡ bytes.now }
+        ensures { result ≡ bytes.now }
     {
-        NoteReader { bytes, position: 0 }
+        NoteReader { bytes }
     }
 
     /// Reads a number from 1 to `most`.
     fn number(&mut self, most: u32) -> Result<u32, NoteRefusal>
-        ensures { Took (read_number (within most)) self.old.bytes.now self.old.position self.new.bytes.now self.new.position result }
+        ensures { Took (read_number (within most)) self.old self.new result }
     {
-        let Some((n, len)) = leading_number(&self.bytes[self.position..]) else {
+        let Some((n, rest)) = leading_number(self.bytes) else {
             return Err(NoteRefusal::BadNumber);
         };
-        if !in_range(n, most) {
+        if !(1..=most).contains(&n) {
             return Err(NoteRefusal::OutOfRange);
         }
-        self.position += len;
+        self.bytes = rest;
         Ok(n)
     }
 
     /// Reads a trade.
+    #[tactic(auto, using(crate::proofs::Taking::trade_read))]
     fn trade(&mut self) -> Result<Trade, NoteRefusal>
-        ensures { Took read_trade self.old.bytes.now self.old.position self.new.bytes.now self.new.position result }
+        ensures { Took read_trade self.old self.new result }
     {
         let buy = self.number(MAX_ORDER)?;
         let sell = self.number(MAX_ORDER)?;
@@ -62,7 +69,7 @@ impl<'a> NoteReader<'a> {
 
     /// Reads so many trades and keeps none of them.
     fn pass_trades(&mut self, count: usize) -> Result<(), NoteRefusal>
-        ensures { (ts : List Trade) × Took (read_trades count) self.old.bytes.now self.old.position self.new.bytes.now self.new.position (carrying result ts) }
+        ensures { Took (pass_trades count) self.old self.new result }
     {
         for _i in 0..count {
             self.trade()?;
@@ -72,46 +79,46 @@ impl<'a> NoteReader<'a> {
 
     /// Reads a trade into each of the places.
     fn store_trades(&mut self, places: &mut [Trade]) -> Result<(), NoteRefusal>
-        ensures { Took (read_trades (length places.old)) self.old.bytes.now self.old.position self.new.bytes.now self.new.position (carrying result places.new) }
+        ensures { Took (read_trades (length places.old)) self.old self.new (carrying result places.new) }
     {
-        for place in places.iter_mut() {
+        for place in places {
             *place = self.trade()?;
         }
         Ok(())
     }
 
-    /// Judges the note from the position to the last byte, and answers its heading and where its trades begin.
-    fn judge(&mut self) -> Result<(Heading, usize), NoteRefusal>
-        ensures same { self.new.bytes.now ≡ self.old.bytes.now }
-        ensures value { Judged self.old.bytes.now self.old.position result }
+    /// Judges the whole note, and answers its heading and a reader at its trades.
+    #[tactic(auto, unfolding(crate::specs::Reading::read_note))]
+    fn judge(mut self) -> Result<(Heading, NoteReader<'a>), NoteRefusal>
+        ensures { Judged self.entry result }
     {
         let price = self.number(MAX_PRICE)?;
         let count = self.number(MAX_TRADES as u32)? as usize;
-        let first = self.position;
+        let trades = NoteReader::new(self.bytes);
         self.pass_trades(count)?;
-        if self.position < self.bytes.len() {
+        if !self.bytes.is_empty() {
             return Err(NoteRefusal::BytesLeft);
         }
-        Ok((Heading { price, count }, first))
+        Ok((Heading { price, count }, trades))
     }
 
     /// Reads the note and stores its trades from the register's first place on, where later places stay.
     ///
     /// At each number in turn it is refused as a bad number, then as out of range; at the end for bytes left over, then for
     /// want of places. A refusal leaves the register as it was. The first `DECISIVE_LEN` bytes decide the answer.
-    pub fn read(mut self, register: &mut [Trade]) -> Result<Heading, NoteRefusal>
-        ensures value { result ≡ read_answer (drop self.entry.position self.entry.bytes.now) (length register.old) }
-        ensures after { register.new ≡ read_register (drop self.entry.position self.entry.bytes.now) register.old }
-        ensures exact { Exact (drop self.entry.position self.entry.bytes.now) register.new result }
-        ensures decided { Decided DECISIVE_LEN (drop self.entry.position self.entry.bytes.now) }
+    #[tactic(auto, using(crate::proofs::Deciding::decided))]
+    pub fn read(self, register: &mut [Trade]) -> Result<Heading, NoteRefusal>
+        ensures value { result ≡ read_answer self.entry (length register.old) }
+        ensures after { register.new ≡ read_register self.entry register.old }
+        ensures exact { Exact self.entry register.new result }
+        ensures decided { Decided DECISIVE_LEN self.entry }
     {
-        let (heading, first) = self.judge()?;
+        let (heading, mut trades) = self.judge()?;
         let count = heading.count;
         if register.len() < count {
             return Err(NoteRefusal::RegisterShort);
         }
-        self.position = first;
-        self.store_trades(&mut register[0..count])?;
+        trades.store_trades(&mut register[0..count])?;
         Ok(heading)
     }
 }

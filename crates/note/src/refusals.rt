@@ -1,6 +1,8 @@
 // Why a note is refused.
-ghost use Rattle.std.specs.Prelude.{◌≡◌};
+ghost use Rattle.std.specs.Prelude.{◌≡◌, Some};
 ghost use Rattle.note.specs.Refusals.{numbered, reason_text};
+
+use std::fmt;
 
 /// A refusal; each case carries its number.
 #[derive(Clone, Copy, Debug, PartialEq, Eq)]
@@ -17,15 +19,18 @@ pub enum NoteRefusal {
     BytesLeft = 16,
 }
 
-impl NoteRefusal {
-    /// The refusal's number.
-    pub fn code(self) -> u8
-        ensures { result ≡ numbered self }
-    {
-        self as u8
-    }
+/// The refusal's number.
+impl From<NoteRefusal> for u8 {
+    ghost from_gives = { λ why code. code ≡ numbered why };
 
+    fn from(why: NoteRefusal) -> u8 {
+        why as u8
+    }
+}
+
+impl NoteRefusal {
     /// The reason in words.
+    // It stays beside `Display`, which promises the words only of a write that went well: here no writer can fail.
     pub fn reason(self) -> &'static str
         ensures { result.now ≡ reason_text self }
     {
@@ -36,5 +41,14 @@ impl NoteRefusal {
             NoteRefusal::BadNumber => "number cut off, over-long or above 4294967295",
             NoteRefusal::BytesLeft => "bytes left over after the note",
         }
+    }
+}
+
+/// Prints the reason in words.
+impl fmt::Display for NoteRefusal {
+    ghost output = { λ why. Some (reason_text why) };
+
+    fn fmt<W: fmt::Write>(&self, f: &mut fmt::Formatter<W>) -> fmt::Result {
+        f.write_str(self.reason())
     }
 }

@@ -1,6 +1,6 @@
 // What a note holds: a heading and trades, with the range of each number.
 ghost use Rattle.std.specs.Prelude.{◌≡◌};
-ghost use Rattle.note.specs.Notes.{within, is_trade};
+ghost use Rattle.note.specs.Notes.{is_trade};
 
 /// The highest price, in centavos.
 pub const MAX_PRICE: u32 = 10_000_000;
@@ -31,21 +31,14 @@ pub struct Heading {
     pub count: usize,
 }
 
-/// Whether `n` is from 1 to `most`.
-pub(crate) fn in_range(n: u32, most: u32) -> bool
-    ensures { result ≡ within most n }
-{
-    1 <= n && n <= most
-}
-
 impl Trade {
     /// Whether a note can hold the trade: each number in its range, and two different orders.
     pub fn is_legal(&self) -> bool
         ensures { result ≡ is_trade self.now }
     {
-        in_range(self.buy, MAX_ORDER)
-            && in_range(self.sell, MAX_ORDER)
+        (1..=MAX_ORDER).contains(&self.buy)
+            && (1..=MAX_ORDER).contains(&self.sell)
             && self.sell != self.buy
-            && in_range(self.quantity, MAX_QUANTITY)
+            && (1..=MAX_QUANTITY).contains(&self.quantity)
     }
 }

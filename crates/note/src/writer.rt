@@ -3,22 +3,16 @@ ghost use Rattle.std.specs.Prelude.{◌≡◌, ◌+◌, ◌≤◌, length, take,
 ghost use Rattle.note.specs.Notes.{are_trades, trade_bytes, trades_bytes};
 ghost use Rattle.note.specs.Writing.{is_writable, write_answer, write_buffer};
 ghost use Rattle.note.specs.Roundtrip.{ReadsBack};
-ghost use Rattle.note.specs.Steps.{Put};
 
 use crate::numbers::{encoded_len, write_number};
 use crate::refusals::NoteRefusal;
-use crate::trades::{MAX_PRICE, MAX_TRADES, Trade, in_range};
+use crate::trades::{MAX_PRICE, MAX_TRADES, Trade};
 
 /// Whether each trade is one that a note can hold.
 fn are_legal(trades: &[Trade]) -> bool
     ensures { result ≡ are_trades trades.now }
 {
-    for trade in trades {
-        if !trade.is_legal() {
-            return false;
-        }
-    }
-    true
+    trades.iter().all(|trade| trade.is_legal())
 }
 
 /// Whether the price and the first `count` trades of the register make a note.
@@ -26,9 +20,8 @@ fn is_writable(price: u32, count: usize, register: &[Trade]) -> bool
     ensures { result ≡ is_writable price count register.now }
 {
     count <= register.len()
-        && in_range(price, MAX_PRICE)
-        && 1 <= count
-        && count <= MAX_TRADES
+        && (1..=MAX_PRICE).contains(&price)
+        && (1..=MAX_TRADES).contains(&count)
         && are_legal(&register[0..count])
 }
 
@@ -46,39 +39,40 @@ fn trades_len(trades: &[Trade]) -> usize
     ensures value { result ≡ length (trades_bytes trades.now) }
     ensures bound { result ≤ 3825 }
 {
-    let mut len = 0usize;
-    for trade in trades {
-        len += trade_len(*trade);
-    }
-    len
+    trades.iter().map(|trade| trade_len(*trade)).sum()
 }
 
-/// Writes a trade from `at` on, where there is room for it, and answers where it ends.
-fn write_trade(buffer: &mut [u8], at: usize, trade: Trade) -> usize
-    requires { at + length (trade_bytes trade) ≤ length buffer.old }
-    ensures { Put buffer.old at (trade_bytes trade) buffer.new result }
+/// Writes a trade into a place of just its length.
+fn write_trade(place: &mut [u8], trade: Trade)
+    requires { length place.old ≡ length (trade_bytes trade) }
+    ensures { place.new ≡ trade_bytes trade }
 {
-    let at = write_number(buffer, at, trade.buy);
-    let at = write_number(buffer, at, trade.sell);
-    write_number(buffer, at, trade.quantity)
+    let (buy, rest) = place.split_at_mut(encoded_len(trade.buy));
+    let (sell, quantity) = rest.split_at_mut(encoded_len(trade.sell));
+    write_number(buy, trade.buy);
+    write_number(sell, trade.sell);
+    write_number(quantity, trade.quantity);
 }
 
-/// Writes trades from `at` on, where there is room for them, and answers where they end.
-fn write_trades(buffer: &mut [u8], at: usize, trades: &[Trade]) -> usize
-    requires { at + length (trades_bytes trades.now) ≤ length buffer.old }
-    ensures { Put buffer.old at (trades_bytes trades.now) buffer.new result }
+/// Writes trades into a place of just their length.
+fn write_trades(place: &mut [u8], trades: &[Trade])
+    requires { length place.old ≡ length (trades_bytes trades.now) }
+    ensures { place.new ≡ trades_bytes trades.now }
 {
-    let mut end = at;
+    // The ends are kept, since nothing is known after a loop of a place that went on as the rest of a `split_at_mut`.
+    let mut end = 0usize;
     for trade in trades {
-        end = write_trade(buffer, end, *trade);
+        let start = end;
+        end += trade_len(*trade);
+        write_trade(&mut place[start..end], *trade);
     }
-    end
 }
 
 /// Writes the note of a price and the first `count` trades of the register to the front of the buffer, and answers its length.
 ///
 /// Refused as out of range if the price, the count, or an order number or a quantity of these trades is, if a trade's two
 /// numbers are equal or if the register has fewer trades; then if the buffer is short. A refusal leaves the buffer as it was.
+// The count stands beside the register, which a caller keeps longer than its trades: a wrong count is judged and refused.
 pub fn write_note(
     price: u32,
     count: usize,
@@ -93,12 +87,17 @@ pub fn write_note(
         return Err(NoteRefusal::OutOfRange);
     }
     let trades = &register[0..count];
-    let len = encoded_len(price) + encoded_len(count as u32) + trades_len(trades);
+    let price_len = encoded_len(price);
+    let count_len = encoded_len(count as u32);
+    let len = price_len + count_len + trades_len(trades);
     if buffer.len() < len {
         return Err(NoteRefusal::BufferShort);
     }
-    let at = write_number(buffer, 0, price);
-    let at = write_number(buffer, at, count as u32);
-    write_trades(buffer, at, trades);
+    let (note, _) = buffer.split_at_mut(len);
+    let (price_place, rest) = note.split_at_mut(price_len);
+    let (count_place, trades_place) = rest.split_at_mut(count_len);
+    write_number(price_place, price);
+    write_number(count_place, count as u32);
+    write_trades(trades_place, trades);
     Ok(len)
 }

@@ -1,83 +1,86 @@
 // What is printed of a note, or of why some bytes are none.
-ghost use Rattle.std.specs.Prelude.{◌≡◌, ◌≤◌, ◌++◌, length, IfOk, string_bytes, OnOk};
-ghost use Rattle.shownote.specs.Reports.{contracts, price_text, counts_text, trade_text, trades_text, note_text, refusal_text, report_text};
+ghost use Rattle.std.specs.Prelude.{◌≡◌, ◌≤◌, Some, length, IfOk, string_bytes};
+ghost use Rattle.shownote.specs.Reports.{contracts, price_text, counts_text, trade_text, note_text, report_text};
 ghost use Rattle.note.specs.Reading.{read_note};
 
-use note::{MAX_TRADES, NoteReader, NoteRefusal, Trade};
+use note::{MAX_TRADES, NoteReader, Trade};
 use std::alloc::{AllocError, Global};
+use std::fmt;
 
-/// The total of contracts of a note's trades.
-fn total(trades: &[Trade]) -> u64
-    requires { length trades.now ≤ 255 }
+/// The total of contracts of some trades, in a type that holds it for any slice of trades.
+fn total(trades: &[Trade]) -> u128
     ensures { result ≡ contracts trades.now }
 {
-    let mut sum = 0u64;
-    for trade in trades {
-        sum += u64::from(trade.quantity);
+    trades.iter().map(|trade| u128::from(trade.quantity)).sum()
+}
+
+/// The lines of a price.
+#[derive(Clone, Copy)]
+struct PriceLines(u32);
+
+impl fmt::Display for PriceLines {
+    ghost output = { λ lines. Some (price_text lines.0) };
+
+    fn fmt<W: fmt::Write>(&self, f: &mut fmt::Formatter<W>) -> fmt::Result {
+        let price = self.0;
+        let whole = price / 100;
+        let tenths = price / 10 % 10;
+        let hundredths = price % 10;
+        write!(
+            f,
+            "price {price} centavos\nprice {whole}.{tenths}{hundredths} pesos\n"
+        )
     }
-    sum
-}
-
-/// The lines of the price.
-fn price_lines(heap: Global, price: u32) -> Result<String, AllocError>
-    ensures { IfOk result (λ text. string_bytes text ≡ price_text price) }
-{
-    let whole = price / 100;
-    let tenths = price / 10 % 10;
-    let hundredths = price % 10;
-    format!(in heap; "price {price} centavos\nprice {whole}.{tenths}{hundredths} pesos\n")
-}
-
-/// The lines of the count of trades and the total of contracts.
-fn count_lines(heap: Global, count: usize, total: u64) -> Result<String, AllocError>
-    ensures { IfOk result (λ text. string_bytes text ≡ counts_text count total) }
-{
-    format!(in heap; "trades {count}\ncontracts {total}\n")
 }
 
 /// The line of the trade that is the `k`-th.
-fn trade_line(heap: Global, k: usize, trade: Trade) -> Result<String, AllocError>
-    ensures { IfOk result (λ text. string_bytes text ≡ trade_text k trade) }
-{
-    let Trade {
-        buy,
-        sell,
-        quantity,
-    } = trade;
-    format!(in heap; "trade {k}: buy {buy}, sell {sell}, quantity {quantity}\n")
+#[derive(Clone, Copy)]
+struct TradeLine {
+    k: usize,
+    trade: Trade,
 }
 
-/// The line of a refusal.
-fn refusal_line(heap: Global, why: NoteRefusal) -> Result<String, AllocError>
-    ensures { IfOk result (λ text. string_bytes text ≡ refusal_text why) }
-{
-    let code = why.code();
-    let reason = why.reason();
-    format!(in heap; "refused {code} {reason}\n")
-}
+impl fmt::Display for TradeLine {
+    ghost output = { λ line. Some (trade_text line.k line.trade) };
 
-/// Adds the lines of a note's trades to the text.
-fn push_trades(heap: Global, text: &mut String, trades: &[Trade]) -> Result<(), AllocError>
-    requires { length trades.now ≤ 255 }
-    ensures { OnOk result (string_bytes text.new ≡ string_bytes text.old ++ trades_text 1 trades.now) }
-{
-    for (i, trade) in trades.iter().enumerate() {
-        let line = trade_line(heap, i + 1, *trade)?;
-        text.push_str(line.as_str())?;
+    fn fmt<W: fmt::Write>(&self, f: &mut fmt::Formatter<W>) -> fmt::Result {
+        let k = self.k;
+        let Trade {
+            buy,
+            sell,
+            quantity,
+        } = self.trade;
+        write!(
+            f,
+            "trade {k}: buy {buy}, sell {sell}, quantity {quantity}\n"
+        )
     }
-    Ok(())
 }
 
 /// The lines of a note.
-fn note_lines(heap: Global, price: u32, trades: &[Trade]) -> Result<String, AllocError>
-    requires { length trades.now ≤ 255 }
-    ensures { IfOk result (λ text. string_bytes text ≡ note_text price trades.now) }
-{
-    let mut text = price_lines(heap, price)?;
-    let counts = count_lines(heap, trades.len(), total(trades))?;
-    text.push_str(counts.as_str())?;
-    push_trades(heap, &mut text, trades)?;
-    Ok(text)
+#[derive(Clone, Copy)]
+struct NoteLines<'a> {
+    price: u32,
+    trades: &'a [Trade],
+}
+
+impl fmt::Display for NoteLines<'_> {
+    ghost output = { λ lines. Some (note_text lines.price lines.trades.now) };
+
+    fn fmt<W: fmt::Write>(&self, f: &mut fmt::Formatter<W>) -> fmt::Result {
+        let price = PriceLines(self.price);
+        let count = self.trades.len();
+        let total = total(self.trades);
+        write!(f, "{price}trades {count}\ncontracts {total}\n")?;
+        for (i, trade) in self.trades.iter().enumerate() {
+            let line = TradeLine {
+                k: i + 1,
+                trade: *trade,
+            };
+            write!(f, "{line}")?;
+        }
+        Ok(())
+    }
 }
 
 /// What is printed of the input, by way of a register that holds any note's trades.
@@ -88,9 +91,16 @@ fn report_by(heap: Global, input: &[u8], register: &mut [Trade]) -> Result<Strin
     match NoteReader::new(input).read(register) {
         Ok(heading) => {
             let count = heading.count;
-            note_lines(heap, heading.price, &register[0..count])
+            let lines = NoteLines {
+                price: heading.price,
+                trades: &register[0..count],
+            };
+            format!(in heap; "{lines}")
         }
-        Err(why) => refusal_line(heap, why),
+        Err(why) => {
+            let code = u8::from(why);
+            format!(in heap; "refused {code} {why}\n")
+        }
     }
 }
 

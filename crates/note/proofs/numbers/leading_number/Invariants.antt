@@ -1,5 +1,5 @@
 use Rattle.note.proofs.Groups.{Sofar}
 use Rattle.note.proofs.numbers.leading_number.Given as goal
 
-abbrev pub invariant-loop-i : goal.invariant-loop-i
-invariant-loop-i l = Sofar l.bytes l.i l.shift l.value
+abbrev pub invariant-loop-place : goal.invariant-loop-place
+invariant-loop-place l = Sofar l.bytes l.place l.value

@@ -1,18 +1,12 @@
-use Rattle.std.proofs.Common.{arith, length-set}
-use Rattle.note.proofs.Putting.{start, more, last, inside, group_byte}
+use Rattle.std.proofs.Common.{arith}
+use Rattle.note.proofs.Putting.{more, small, last, group_byte}
 use Rattle.note.proofs.numbers.write_number.Goals as goal
 
-pub loop-rest-init : goal.loop-rest-init
-loop-rest-init c = start _ _ _ c.requires
+pub loop-byte-preserved : goal.loop-byte-preserved
+loop-byte-preserved c = more c.loop-byte.invariant (omega arith) _ (group_byte c.loop-byte.rest)
 
-pub bounds-buffer-end : goal.bounds-buffer-end
-bounds-buffer-end c = inside _ c.loop-rest.invariant
+pub overflow_cast-last : goal.overflow_cast-last
+overflow_cast-last c = let few = small c.loop-byte.invariant (omega arith) (omega arith) in omega arith
 
-pub bounds-buffer-end-2 : goal.bounds-buffer-end-2
-bounds-buffer-end-2 c = inside _ c.loop-rest.invariant
-
-pub loop-rest-preserved : goal.loop-rest-preserved
-loop-rest-preserved c = more _ c.loop-rest.invariant _ (length-set _ _ _) (omega arith) (group_byte c.loop-rest.rest)
-
-pub returns : goal.returns
-returns c = last _ c.loop-rest.invariant (length-set _ _ _) (omega arith)
+pub returns-after-loop-byte : goal.returns-after-loop-byte
+returns-after-loop-byte c = last c.loop-byte.invariant (omega arith) (omega arith)

@@ -1,19 +1,11 @@
-use Rattle.std.proofs.Common.{◌+◌, ◌&&◌, drop, sym, ap, ◌∙◌, arith}
-use Rattle.note.specs.Notes.{are_trades}
-use Rattle.note.proofs.Listing.{legal_more, legal_all}
+use Rattle.std.proofs.Common.{◌∙◌, rules, tests}
+use Rattle.std.proofs.lemmas.Iterator.{YieldsList-from_slice}
+use Rattle.std.proofs.lemmas.Iterator.Search.{all_from_yields_List}
+use Rattle.note.specs.Notes.{is_trade}
+use Rattle.note.proofs.Listing.{all_legal}
 use Rattle.note.proofs.writer.are_legal.Goals as goal
 
-pub returns-then-not-is_legal : goal.returns-then-not-is_legal
-returns-then-not-is_legal c =
-    let ts = c.args.trades.now in
-    let i = c.loop-trade.trade-index in
-    ap (λ b. b && are_trades (drop (i + 1) ts)) c.if-not-is_legal.ensures ∙ sym (legal_more ts i _ (omega arith)) ∙ c.loop-trade.invariant
-
-pub loop-trade-preserved : goal.loop-trade-preserved
-loop-trade-preserved c =
-    let ts = c.args.trades.now in
-    let i = c.loop-trade.trade-index in
-    ap (λ b. b && are_trades (drop (i + 1) ts)) c.if-not-is_legal.ensures ∙ sym (legal_more ts i _ (omega arith)) ∙ c.loop-trade.invariant
-
 pub returns : goal.returns
-returns c = sym (legal_all c.args.trades.now c.loop-trade.trade-index (omega arith)) ∙ c.loop-trade.invariant
+returns c =
+    let trades = c.args.trades.now in
+    all_from_yields_List is_trade _ _ c.all.result c.all.ensures.ran (YieldsList-from_slice trades cc) (λ x b q k. search (rules, tests)) ∙ all_legal trades

@@ -1,18 +1,18 @@
-use Rattle.std.proofs.Common.{◌+◌, length, get_or, drop, ap, ◌∙◌, arith, length-append}
+use Rattle.std.proofs.Common.{◌≡◌, ◌∙◌, length, sum_by, rules, arith, tests}
+use Rattle.std.proofs.lemmas.Iterator.{YieldsList-from_slice}
+use Rattle.std.proofs.lemmas.Iterator.Adapters.{fits_from_length, at_most_from_yields_List}
 use Rattle.note.specs.declared.trades.Trade.{Trade}
-use Rattle.note.specs.Notes.{trade_bytes, trades_bytes}
-use Rattle.note.proofs.Listing.{bytes_more, bytes_all}
+use Rattle.note.specs.Notes.{trade_bytes}
+use Rattle.note.proofs.Listing.{sum_of_bytes}
 use Rattle.note.proofs.writer.trades_len.Goals as goal
 
-pub loop-trade-preserved : goal.loop-trade-preserved
-loop-trade-preserved c =
-    let ts = c.args.trades.now in
-    let i = c.loop-trade.trade-index in
-    let t : Trade = get_or ts i (record { buy = 0; sell = 0; quantity = 0 }) in
-    let step = ap length (bytes_more ts i (record { buy = 0; sell = 0; quantity = 0 }) (omega arith)) ∙ length-append (trade_bytes t) (trades_bytes (drop (i + 1) ts)) in
-    (omega (arith, step, c.trade_len-len.ensures.value, c.loop-trade.invariant.0), omega (arith, c.trade_len-len.ensures.bound, c.loop-trade.invariant.1))
+pub returns-clause-value : goal.returns-clause-value
+returns-clause-value c =
+    let is : c.sum.result ≡ sum_by (λ (t : Trade). length (trade_bytes t)) c.args.trades.now = search rules in
+    is ∙ sum_of_bytes c.args.trades.now
 
-pub returns : goal.returns
-returns c =
-    let end = ap length (bytes_all c.args.trades.now c.loop-trade.trade-index (omega arith)) in
-    record { value = omega (arith, end, c.loop-trade.invariant.0); bound = omega (arith, c.loop-trade.invariant.1, c.requires) }
+pub returns-clause-bound : goal.returns-clause-bound
+returns-clause-bound c =
+    let whole = c.sum.ensures.runs tt in
+    let below = fits_from_length _ _ 255 3826 (at_most_from_yields_List (YieldsList-from_slice c.args.trades.now cc) c.requires) c.map.ensures.closure (omega arith) (λ x r q k. search (rules, tests)) whole.0 whole.0.seen whole.1 in
+    omega (arith, whole.3, below)

@@ -1,19 +1,21 @@
-use Rattle.std.proofs.Common.{subst, arith}
-use Rattle.note.proofs.Listing.{bytes_more, bytes_all}
-use Rattle.note.proofs.Putting.{Begun, start, next, fits_next, done}
+use Rattle.std.proofs.Common.{length, ap, arith, rules}
+use Rattle.note.proofs.Putting.{room, next, done}
 use Rattle.note.proofs.writer.write_trades.Goals as goal
 
-pub loop-trade-init : goal.loop-trade-init
-loop-trade-init c = start _ _ _ c.requires
+pub overflow_add-end : goal.overflow_add-end
+overflow_add-end c =
+    let fits = room c.loop-trade.invariant (record { buy = 0; sell = 0; quantity = 0 }) (omega arith) in
+    search (rules, fits)
 
-pub write_trade-end-requires : goal.write_trade-end-requires
-write_trade-end-requires c =
-    fits_next _ _ (subst (Begun _ _ _ _ _) (bytes_more c.args.trades.now c.loop-trade.trade-index _ (omega arith)) c.loop-trade.invariant)
+pub slice_bounds-write_trade-end : goal.slice_bounds-write_trade-end
+slice_bounds-write_trade-end c =
+    let fits = room c.loop-trade.invariant (record { buy = 0; sell = 0; quantity = 0 }) (omega arith) in
+    search (rules, fits)
 
 pub loop-trade-preserved : goal.loop-trade-preserved
 loop-trade-preserved c =
-    let left = subst (Begun _ _ _ _ _) (bytes_more c.args.trades.now c.loop-trade.trade-index _ (omega arith)) c.loop-trade.invariant in
-    next left c.write_trade-end.ensures c.write_trade-end.auto.buffer
+    let fits = room c.loop-trade.invariant (record { buy = 0; sell = 0; quantity = 0 }) (omega arith) in
+    next c.loop-trade.invariant _ (omega arith) (omega arith) _ c.write_trade.ensures _ _ (omega (arith, c.trade_len-end.ensures.value, ap length c.write_trade.ensures))
 
 pub returns : goal.returns
-returns c = done (subst (Begun _ _ _ _ _) (bytes_all c.args.trades.now c.loop-trade.trade-index (omega arith)) c.loop-trade.invariant)
+returns c = done c.loop-trade.invariant (record { buy = 0; sell = 0; quantity = 0 }) (omega arith) (omega arith)

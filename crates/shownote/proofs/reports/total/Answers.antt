@@ -1,11 +1,9 @@
-use Rattle.std.proofs.Common.{arith}
-use Rattle.shownote.proofs.Totals.{contracts_more, contracts_all}
+use Rattle.std.proofs.Common.{◌≡◌, ◌∙◌, sum_by, rules}
+use Rattle.note.specs.declared.trades.Trade.{Trade}
+use Rattle.shownote.proofs.Totals.{sum_of_contracts}
 use Rattle.shownote.proofs.reports.total.Goals as goal
 
-pub loop-trade-preserved : goal.loop-trade-preserved
-loop-trade-preserved c =
-    let step = contracts_more c.args.trades.now c.loop-trade.trade-index (record { buy = 0; sell = 0; quantity = 0 }) (omega arith) in
-    (omega (arith, step, c.from-sum.ensures), omega (arith, c.from-sum.ensures))
-
 pub returns : goal.returns
-returns c = omega (arith, contracts_all c.args.trades.now c.loop-trade.trade-index (omega arith))
+returns c =
+    let is : c.sum.result ≡ sum_by (λ (t : Trade). t.quantity) c.args.trades.now = search rules in
+    is ∙ sum_of_contracts c.args.trades.now
