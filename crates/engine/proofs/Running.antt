@@ -1,5 +1,5 @@
 -- A run that has carried out its first i calls. Assumes nothing.
-use Rattle.std.proofs.Common.{◌≡◌, ℕ, zero, suc, ◌+◌, ◌-◌, ◌<◌, ◌≤◌, true, List, [], ◌∷◌, ◌++◌, length, get_or, take, drop, sym, refl, ap, ◌∙◌, subst, append_assoc, append-nil, add-one, arith, length-append, drop-cons, take-suc}
+use Rattle.std.proofs.Common.{◌≡◌, ℕ, zero, suc, ◌+◌, ◌-◌, ◌<◌, ◌≤◌, true, List, [], ◌∷◌, ◌++◌, length, get_or, take, drop, Ok, Err, Result, sym, refl, ap, ◌∙◌, subst, append_assoc, append-nil, add-one, arith, length-append, drop-cons, take-suc}
 use lib.Seq.{drop-length, append_snoc, take-append-le, drop-append-le, drop-append_seam}
 use Rattle.std.proofs.lemmas.List.{length-drop, length-take, take_all}
 use Rattle.note.specs.declared.trades.Trade.{Trade}
@@ -7,7 +7,8 @@ use Rattle.book.specs.Meaning.{Book, rising}
 use Rattle.price.specs.declared.indications.Indication.{Indication}
 use Rattle.trading.specs.declared.calls.Call.{Call}
 use Rattle.trading.specs.declared.answers.Answer.{Answer}
-use Rattle.trading.specs.declared.answers.Answer.TheVariants.{Entered, Cut, Withdrawn, Indicated, Uncrossed, Refused}
+use Rattle.trading.specs.declared.answers.Answer.TheVariants.{Entered, Cut, Withdrawn, Indicated, Uncrossed}
+use Rattle.trading.specs.declared.refusals.Refusal.{Refusal}
 use Rattle.trading.specs.declared.refusals.Refusal.{Refusal}
 use Rattle.trading.specs.Replies.{Reply, uncrossed, refused, trades_of, outcome, replies, after_all, written, register_after, log_of, read, read_all}
 use Rattle.trading.proofs.Following.{follows, lawful}
@@ -16,49 +17,49 @@ use Rattle.engine.specs.Runs.{Within, Ran}
 
 -- An answer reads the same in a longer log.
 
-read_more : (log more : List Trade) (a : Answer) → Within (length log) a → read (log ++ more) a ≡ read log a
-read_more log more (Entered n) h = refl
-read_more log more Cut h = refl
-read_more log more Withdrawn h = refl
-read_more log more (Indicated told) h = refl
-read_more log more (Uncrossed told first count) h =
+read_more : (log more : List Trade) (a : Result Answer Refusal) → Within (length log) a → read (log ++ more) a ≡ read log a
+read_more log more (Ok (Entered n)) h = refl
+read_more log more (Ok Cut) h = refl
+read_more log more (Ok Withdrawn) h = refl
+read_more log more (Ok (Indicated told)) h = refl
+read_more log more (Ok (Uncrossed told first count)) h =
     let front : drop first (log ++ more) ≡ drop first log ++ more = drop-append-le first log more (omega arith) in
     let within : count ≤ length (drop first log) = simp length-drop (omega arith) in
     ap (uncrossed told) (ap (take count) front ∙ take-append-le count (drop first log) more within)
-read_more log more (Refused why) h = refl
+read_more log more (Err why) h = refl
 
-pub read_all_more : (log more : List Trade) (answers : List Answer) → Each (Within (length log)) answers → read_all (log ++ more) answers ≡ read_all log answers
+pub read_all_more : (log more : List Trade) (answers : List (Result Answer Refusal)) → Each (Within (length log)) answers → read_all (log ++ more) answers ≡ read_all log answers
 unfolding read_all
 read_all_more log more [] h = refl
 read_all_more log more (a ∷ answers) h = ap (λ r. r ∷ read_all (log ++ more) answers) (read_more log more a h.0) ∙ ap (λ rs. read log a ∷ rs) (read_all_more log more answers h.1)
 
-read_all_snoc : (log : List Trade) (answers : List Answer) (a : Answer) → read_all log (answers ++ a ∷ []) ≡ read_all log answers ++ read log a ∷ []
+read_all_snoc : (log : List Trade) (answers : List (Result Answer Refusal)) (a : Result Answer Refusal) → read_all log (answers ++ a ∷ []) ≡ read_all log answers ++ read log a ∷ []
 unfolding read_all
 read_all_snoc log [] a = refl
 read_all_snoc log (b ∷ answers) a = ap (λ rs. read log b ∷ rs) (read_all_snoc log answers a)
 
-within_more : (n k : ℕ) → n ≤ k → (a : Answer) → Within n a → Within k a
-within_more n k le (Entered i) h = tt
-within_more n k le Cut h = tt
-within_more n k le Withdrawn h = tt
-within_more n k le (Indicated told) h = tt
-within_more n k le (Uncrossed told first count) h = omega arith
-within_more n k le (Refused why) h = tt
+within_more : (n k : ℕ) → n ≤ k → (a : Result Answer Refusal) → Within n a → Within k a
+within_more n k le (Ok (Entered i)) h = tt
+within_more n k le (Ok Cut) h = tt
+within_more n k le (Ok Withdrawn) h = tt
+within_more n k le (Ok (Indicated told)) h = tt
+within_more n k le (Ok (Uncrossed told first count)) h = omega arith
+within_more n k le (Err why) h = tt
 
-all_within_more : (n k : ℕ) → n ≤ k → (answers : List Answer) → Each (Within n) answers → Each (Within k) answers
+all_within_more : (n k : ℕ) → n ≤ k → (answers : List (Result Answer Refusal)) → Each (Within n) answers → Each (Within k) answers
 all_within_more n k le [] h = tt
 all_within_more n k le (a ∷ answers) h = (within_more n k le a h.0, all_within_more n k le answers h.1)
 
-each_snoc : (P : Answer → Type 0) (answers : List Answer) (a : Answer) → Each P answers → P a → Each P (answers ++ a ∷ [])
+each_snoc : (P : Result Answer Refusal → Type 0) (answers : List (Result Answer Refusal)) (a : Result Answer Refusal) → Each P answers → P a → Each P (answers ++ a ∷ [])
 each_snoc P [] a h p = (p, tt)
 each_snoc P (b ∷ answers) a h p = (h.0, each_snoc P answers a h.1 p)
 
 -- what an uncrossing adds to the log is read back
-pub read_added : (log ts : List Trade) (told : Indication) (count : ℕ) → count ≡ length ts → read (log ++ ts) (Uncrossed told (length log) count) ≡ uncrossed told ts
+pub read_added : (log ts : List Trade) (told : Indication) (count : ℕ) → count ≡ length ts → read (log ++ ts) (Ok (Uncrossed told (length log) count)) ≡ uncrossed told ts
 read_added log ts told count e = ap (uncrossed told) (ap (take count) (drop-append_seam log ts) ∙ ap (λ n. take n ts) e ∙ take_all (length ts) ts (omega arith))
 
 -- The answers so far, the log, the book and the register go on to what the whole run comes to.
-pub record Going (tick scarcity places : ℕ) (m₀ : Book) (xs₀ : List Trade) (cs : List Call) (answers : List Answer) (log : List Trade) (m : Book) (xs : List Trade) (i : ℕ) : Type 0 where
+pub record Going (tick scarcity places : ℕ) (m₀ : Book) (xs₀ : List Trade) (cs : List Call) (answers : List (Result Answer Refusal)) (log : List Trade) (m : Book) (xs : List Trade) (i : ℕ) : Type 0 where
   pub within : i ≤ length cs
   pub rises : rising 0 m.orders m.last ≡ true
   pub replied : read_all log answers ++ replies tick scarcity places m (drop i cs) ≡ replies tick scarcity places m₀ cs
@@ -77,7 +78,7 @@ dropped : (cs : List Call) (i : ℕ) (c : Call) → i < length cs → c ≡ get_
 dropped cs i c lt is = let d = drop-cons cs i c lt in let one : i + 1 ≡ suc i = omega arith in cc
 
 module _ (tick scarcity places : ℕ) (m₀ : Book) (xs₀ : List Trade) (cs : List Call) where
-  going_at : (answers : List Answer) (log : List Trade) (m : Book) (xs : List Trade) (i : ℕ) (c : Call) (a : Answer)
+  going_at : (answers : List (Result Answer Refusal)) (log : List Trade) (m : Book) (xs : List Trade) (i : ℕ) (c : Call) (a : Result Answer Refusal)
       → i < length cs → c ≡ get_or cs i c → Going tick scarcity places m₀ xs₀ cs answers log m xs i
       → read (log ++ trades_of (outcome tick scarcity places m c).reply) a ≡ (outcome tick scarcity places m c).reply
       → Within (length (log ++ trades_of (outcome tick scarcity places m c).reply)) a
@@ -105,7 +106,7 @@ module _ (tick scarcity places : ℕ) (m₀ : Book) (xs₀ : List Trade) (cs : L
       }
 
   -- one call more, as it was carried out
-  pub going_more : (answers answers' : List Answer) (log log' : List Trade) (m m' : Book) (xs xs' : List Trade) (i n : ℕ) (c : Call) (a : Answer)
+  pub going_more : (answers answers' : List (Result Answer Refusal)) (log log' : List Trade) (m m' : Book) (xs xs' : List Trade) (i n : ℕ) (c : Call) (a : Result Answer Refusal)
       → i < length cs → c ≡ get_or cs i c → n ≡ length log'
       → read log' a ≡ (outcome tick scarcity places m c).reply → m' ≡ (outcome tick scarcity places m c).after
       → xs' ≡ written (trades_of (outcome tick scarcity places m c).reply) xs → log' ≡ log ++ trades_of (outcome tick scarcity places m c).reply
@@ -125,7 +126,7 @@ getD_same (c ∷ cs) zero d e lt = refl
 getD_same (c ∷ cs) (suc i) d e lt = getD_same cs i d e (omega arith)
 
 -- the same of the call at place i, with a register of the same length
-pub going_next : (tick scarcity places j : ℕ) (m₀ : Book) (xs₀ : List Trade) (cs : List Call) (answers answers' : List Answer) (log log' : List Trade) (m m' : Book) (xs xs' : List Trade) (i n : ℕ) (d : Call) (a : Answer)
+pub going_next : (tick scarcity places j : ℕ) (m₀ : Book) (xs₀ : List Trade) (cs : List Call) (answers answers' : List (Result Answer Refusal)) (log log' : List Trade) (m m' : Book) (xs xs' : List Trade) (i n : ℕ) (d : Call) (a : Result Answer Refusal)
     → j ≡ places → i < length cs → n ≡ length log'
     → read log' a ≡ (outcome tick scarcity j m (get_or cs i d)).reply → m' ≡ (outcome tick scarcity j m (get_or cs i d)).after
     → xs' ≡ written (trades_of (outcome tick scarcity j m (get_or cs i d)).reply) xs → log' ≡ log ++ trades_of (outcome tick scarcity j m (get_or cs i d)).reply
@@ -141,7 +142,7 @@ going_next tick scarcity places j m₀ xs₀ cs answers answers' log log' m m' x
     inside ea h
 
 -- all calls are carried out
-pub going_ends : (tick scarcity : ℕ) (m₀ : Book) (xs₀ : List Trade) (cs : List Call) (answers : List Answer) (log : List Trade) (m : Book) (xs : List Trade) (i : ℕ) → rising 0 m₀.orders m₀.last ≡ true → length cs ≤ i → Going tick scarcity (length xs₀) m₀ xs₀ cs answers log m xs i → Ran tick scarcity m₀ xs₀ cs answers log m xs
+pub going_ends : (tick scarcity : ℕ) (m₀ : Book) (xs₀ : List Trade) (cs : List Call) (answers : List (Result Answer Refusal)) (log : List Trade) (m : Book) (xs : List Trade) (i : ℕ) → rising 0 m₀.orders m₀.last ≡ true → length cs ≤ i → Going tick scarcity (length xs₀) m₀ xs₀ cs answers log m xs i → Ran tick scarcity m₀ xs₀ cs answers log m xs
 unfolding replies after_all register_after log_of
 going_ends tick scarcity m₀ xs₀ cs answers log m xs i r le h =
     let k = length xs₀ in

@@ -63,23 +63,29 @@ fn carry_out<B: OrderBook>(
     ensures capacity { vec_capacity log.new ≡ vec_capacity log.old }
     ensures within { Within (vec_len log.new) result }
 {
-    Ok(match call {
+    match call {
         Call::Entry {
             side,
             quantity,
             price,
-        } => Answer::Entered(entry(book, session, side, quantity, price)?),
+        } => {
+            let number = entry(book, session, side, quantity, price)?;
+            Ok(Answer::Entered(number))
+        }
         Call::Cut { number, quantity } => {
             cut(book, number, quantity)?;
-            Answer::Cut
+            Ok(Answer::Cut)
         }
         Call::Withdrawal { number } => {
             withdrawal(book, number)?;
-            Answer::Withdrawn
+            Ok(Answer::Withdrawn)
         }
-        Call::Indication => Answer::Indicated(indication(book, session)?),
-        Call::Uncrossing => uncross_into(book, session, register, log)?,
-    })
+        Call::Indication => {
+            let told = indication(book, session)?;
+            Ok(Answer::Indicated(told))
+        }
+        Call::Uncrossing => uncross_into(book, session, register, log),
+    }
 }
 
 /// Carries out the calls in turn and answers each. Where there is no memory for the answers and trades, nothing is carried out.
