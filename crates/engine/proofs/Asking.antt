@@ -1,6 +1,6 @@
 -- What the book and the session answer, as the outcome of a call. Assumes nothing.
-use Rattle.std.proofs.Common.{◌≡◌, ℕ, ◌*◌, ◌<◌, ◌≤◌, Bool, true, false, cond, ◌&&◌, ◌||◌, eqb, ltb, leb, ◌⊎◌, Some, None, Ok, Err, Result, sym, refl, ap, ◌∙◌, ⊎_elim, mul-le-mul_left, zero-mul, arith}
-use Rattle.std.proofs.lemmas.Bool.{cases_lt, lt-leb, le-leb, ne_eqb, le-ltb, or_from, and_from, and_left, and_right, cond-true, cond-false}
+use Rattle.std.proofs.Common.{◌≡◌, ℕ, ◌*◌, ◌≤◌, Bool, true, false, cond, ◌&&◌, ◌||◌, eqb, ltb, leb, Some, None, Ok, Err, Result, sym, refl, ap, ◌∙◌, ⊎_elim, mul-le-mul_left, zero-mul, arith}
+use Rattle.std.proofs.lemmas.Bool.{cases_lt, le-leb, ne_eqb, le-ltb, or_from, and_from, cond-true, cond-false}
 use Rattle.session.specs.declared.refusals.SessionRefusal.{SessionRefusal}
 use Rattle.session.specs.declared.refusals.SessionRefusal.TheVariants.{QuantityRange}
 use Rattle.session.specs.declared.judgements.PriceRefusal.{PriceRefusal}
@@ -28,16 +28,13 @@ err_at r x y e f = e ∙ ap (λ z. Err z) f
 
 -- Entry.
 
-pub quantity_out : (tick quantity price : ℕ) → (quantity ≡ 0) ⊎ ((quantity ≡ 0 → ⊥) × (6858 < quantity)) → entry_limit tick quantity price ≡ Err QuantityRange
+pub quantity_out : (tick quantity price : ℕ) → (leb 1 quantity && leb quantity 6858) ≡ false → entry_limit tick quantity price ≡ Err QuantityRange
 unfolding entry_limit
-quantity_out tick quantity price out =
-    cond-false (leb 1 quantity && leb quantity 6858) _ _
-    (⊎_elim (λ none. and_left (leb 1 quantity) (leb quantity 6858) (lt-leb 1 quantity (omega arith))) (λ many. and_right (leb 1 quantity) (leb quantity 6858) (lt-leb quantity 6858 many.1)) out)
+quantity_out tick quantity price f = cond-false (leb 1 quantity && leb quantity 6858) _ _ f
 
-pub quantity_in : (tick quantity price : ℕ) → (quantity ≡ 0 → ⊥) → quantity ≤ 6858 → entry_limit tick quantity price ≡ price_limit (price_judged tick price)
+pub quantity_in : (tick quantity price : ℕ) → (leb 1 quantity && leb quantity 6858) ≡ true → entry_limit tick quantity price ≡ price_limit (price_judged tick price)
 unfolding entry_limit
-quantity_in tick quantity price some few =
-    cond-true (leb 1 quantity && leb quantity 6858) _ _ (and_from (leb 1 quantity) (leb quantity 6858) (le-leb 1 quantity (omega (arith, some))) (le-leb quantity 6858 few))
+quantity_in tick quantity price t = cond-true (leb 1 quantity && leb quantity 6858) _ _ t
 
 -- an entry that passed makes a body
 judged_range : (tick price limit : ℕ) (r : Result ℕ PriceRefusal) → 1 ≤ tick → Judged tick price r → Ok limit ≡ price_limit r → (1 ≤ limit) × (limit ≤ 10000000)

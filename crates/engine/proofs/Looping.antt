@@ -71,3 +71,10 @@ writing_ends os v xs₀ xs p n e h =
     let l = ap length e in
     let len : n ≡ length (trades_at v os) = omega (arith, written_length os v xs₀ xs p n h) in
     sym (take-append-drop n xs) ∙ ap (λ ys. ys ++ drop n xs) all ∙ ap (λ ys. trades_at v os ++ ys) h.behind ∙ ap (λ k. trades_at v os ++ drop k xs₀) len
+
+-- every place is written, so that no trade is left
+pub writing_full : (os : List Order) (v : ℕ) (xs₀ xs : List Trade) (p : Fronts) (n : ℕ) → length xs₀ ≤ n → Writing os v xs₀ xs p n → xs ≡ written (trades_at v os) xs₀
+writing_full os v xs₀ xs p n full h = writing_ends os v xs₀ xs p n (none (trades_left os p) (omega (arith, written_length os v xs₀ xs p n h, h.room))) h where
+  none : (ts : List Trade) → length ts ≡ 0 → ts ≡ []
+  none [] e = refl
+  none (t ∷ ts) e = absurd (omega arith)

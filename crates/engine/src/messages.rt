@@ -12,7 +12,7 @@ use trading::Refusal;
 fn judge_entry(session: Session, quantity: u32, price: u32) -> Result<u32, SessionRefusal>
     ensures { result ≡ entry_limit session.tick quantity price }
 {
-    if quantity == 0 || quantity > MAX_QUANTITY {
+    if !(1..=MAX_QUANTITY).contains(&quantity) {
         return Err(SessionRefusal::QuantityRange);
     }
     Ok(session.judge(price)?)
@@ -50,9 +50,7 @@ pub fn withdrawal<B: OrderBook>(book: &mut B, number: u32) -> Result<(), Refusal
     ensures answer { withdrawal_reply result ≡ (outcome 0 0 0 (B.meaning book.old) (AskWithdrawal number)).reply }
     ensures after { B.meaning book.new ≡ (outcome 0 0 0 (B.meaning book.old) (AskWithdrawal number)).after }
 {
-    let Some(live) = book.find(number) else {
-        return Err(Refusal::Book(BookRefusal::UnknownOrder));
-    };
+    let live = book.find(number).ok_or(BookRefusal::UnknownOrder)?;
     book.cut(number, live.body.quantity)?;
     Ok(())
 }

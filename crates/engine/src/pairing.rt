@@ -11,38 +11,38 @@ use note::Trade;
 /// Nothing is open, or nothing is left to lay.
 const NOTHING: u32 = 0;
 
-/// The front with its first fill open, if there is one.
-fn refilled<B: OrderBook>(book: &B, side: Side, front: Front) -> Front
-    requires { At side (B.meaning book.now).orders front }
-    ensures { Refilled side (B.meaning book.now).orders front result }
-{
-    if front.open > NOTHING || front.left == NOTHING {
-        return front;
-    }
-    match book.rank(side, front.rank + 1) {
-        Some(order) => {
-            let open = front.left.min(order.body.quantity);
-            Front {
-                rank: front.rank + 1,
-                number: order.number,
-                open,
-                left: front.left - open,
-            }
+impl Front {
+    /// The front with its first fill open, if there is one.
+    fn refilled<B: OrderBook>(self, book: &B, side: Side) -> Front
+        requires { At side (B.meaning book.now).orders self }
+        ensures { Refilled side (B.meaning book.now).orders self result }
+    {
+        if self.open > NOTHING || self.left == NOTHING {
+            return self;
         }
-        None => front,
+        match book.rank(side, self.rank + 1) {
+            Some(order) => {
+                let open = self.left.min(order.body.quantity);
+                Front {
+                    rank: self.rank + 1,
+                    number: order.number,
+                    open,
+                    left: self.left - open,
+                }
+            }
+            None => self,
+        }
     }
-}
 
-/// The front with so much less open.
-fn lessened(front: Front, quantity: u32) -> Front
-    requires { quantity ≤ front.«open» }
-    ensures { result ≡ record { rank = front.rank; number = front.number; «open» = front.«open» - quantity; left = front.left } }
-{
-    Front {
-        rank: front.rank,
-        number: front.number,
-        open: front.open - quantity,
-        left: front.left,
+    /// The front with so much less open.
+    fn lessened(self, quantity: u32) -> Front
+        requires { quantity ≤ self.«open» }
+        ensures { result ≡ record { rank = self.rank; number = self.number; «open» = self.«open» - quantity; left = self.left } }
+    {
+        Front {
+            open: self.open - quantity,
+            ..self
+        }
     }
 }
 
@@ -51,14 +51,14 @@ fn next_trade<B: OrderBook>(book: &B, fronts: &mut Fronts) -> Option<Trade>
     requires { Placed (B.meaning book.now).orders fronts.old }
     ensures { Next (B.meaning book.now).orders fronts.old result fronts.new }
 {
-    let buys = refilled(book, Side::Buy, fronts.buys);
-    let sells = refilled(book, Side::Sell, fronts.sells);
+    let buys = fronts.buys.refilled(book, Side::Buy);
+    let sells = fronts.sells.refilled(book, Side::Sell);
     let quantity = buys.open.min(sells.open);
     if quantity == NOTHING {
         return None;
     }
-    fronts.buys = lessened(buys, quantity);
-    fronts.sells = lessened(sells, quantity);
+    fronts.buys = buys.lessened(quantity);
+    fronts.sells = sells.lessened(quantity);
     Some(Trade {
         buy: buys.number,
         sell: sells.number,
@@ -100,9 +100,10 @@ pub(crate) fn write_trades<B: OrderBook>(book: &B, volume: u32, register: &mut [
     ensures { register.new ≡ written (trades_at volume (B.meaning book.now).orders) register.old }
 {
     let mut fronts = begin(volume);
-    let mut place = 0usize;
-    while let Some(trade) = next_trade(book, &mut fronts) {
-        register[place] = trade;
-        place += 1;
+    for place in register.iter_mut() {
+        let Some(trade) = next_trade(book, &mut fronts) else {
+            return;
+        };
+        *place = trade;
     }
 }
