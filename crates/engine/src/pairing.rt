@@ -83,6 +83,7 @@ fn begin(volume: u32) -> Fronts
 }
 
 /// How many trades the volume makes.
+// Counted in a loop: of an iterator made of a closure that moves the fronts, a proof would know nothing.
 pub(crate) fn count_trades<B: OrderBook>(book: &B, volume: u32) -> usize
     ensures { result ≡ length (trades_at volume (B.meaning book.now).orders) }
 {
