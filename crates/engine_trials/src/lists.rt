@@ -8,7 +8,7 @@ use note::Trade;
 use session::Session;
 use std::alloc::{AllocError, Global};
 use table::Table;
-use trading::{Answer, Call};
+use trading::{Answer, Call, Refusal};
 
 /// How many calls a list has.
 const CALLS: u32 = 30;
@@ -139,16 +139,16 @@ fn expect(
 }
 
 /// Whether an answer is the calculator's, with its trades at a place of the log.
-fn agrees(answer: Answer, reply: PlainReply, at: usize, trades: usize) -> bool {
+fn agrees(answer: Result<Answer, Refusal>, reply: PlainReply, at: usize, trades: usize) -> bool {
     match (answer, reply) {
-        (Answer::Entered(given), PlainReply::Entered(wanted)) => given == wanted,
-        (Answer::Cut, PlainReply::Cut) => true,
-        (Answer::Withdrawn, PlainReply::Withdrawn) => true,
-        (Answer::Indicated(given), PlainReply::Indicated(wanted)) => given == wanted,
-        (Answer::Uncrossed { told, first, count }, PlainReply::Uncrossed(wanted)) => {
+        (Ok(Answer::Entered(given)), PlainReply::Entered(wanted)) => given == wanted,
+        (Ok(Answer::Cut), PlainReply::Cut) => true,
+        (Ok(Answer::Withdrawn), PlainReply::Withdrawn) => true,
+        (Ok(Answer::Indicated(given)), PlainReply::Indicated(wanted)) => given == wanted,
+        (Ok(Answer::Uncrossed { told, first, count }), PlainReply::Uncrossed(wanted)) => {
             told == wanted && first == at && count == trades
         }
-        (Answer::Refused(why), PlainReply::Refused(number)) => why.code() == number,
+        (Err(why), PlainReply::Refused(number)) => u8::from(why) == number,
         _ => false,
     }
 }
@@ -164,18 +164,6 @@ fn answers_agree(journal: &Journal, expected: &Expected) -> bool {
             return false;
         }
         at = at.saturating_add(*count);
-    }
-    true
-}
-
-fn trades_agree(given: &[Trade], wanted: &[Trade]) -> bool {
-    if given.len() != wanted.len() {
-        return false;
-    }
-    for (one, other) in given.iter().zip(wanted.iter()) {
-        if one != other {
-            return false;
-        }
     }
     true
 }
@@ -212,8 +200,8 @@ fn make_agrees<B: OrderBook>(
     let journal = run(heap, book, session, calls, &mut register)?;
     Ok(
         answers_agree(&journal, expected)
-            && trades_agree(&journal.trades, &expected.log)
-            && trades_agree(&register, &expected.register)
+            && journal.trades == expected.log
+            && register == expected.register
             && book_agrees(book, &expected.book),
     )
 }

@@ -1,7 +1,7 @@
 // Answers as text.
 use engine::Journal;
 use note::Trade;
-use trading::Answer;
+use trading::{Answer, Refusal};
 
 fn show_trade(rt: &HostRuntime, trade: Trade) -> anyhow::Result<()> {
     println!(rt; "{} {} {}", trade.buy, trade.sell, trade.quantity)?;
@@ -9,18 +9,22 @@ fn show_trade(rt: &HostRuntime, trade: Trade) -> anyhow::Result<()> {
 }
 
 /// Prints an answer, and the trades of an uncrossing.
-fn show_answer(rt: &HostRuntime, answer: Answer, log: &[Trade]) -> anyhow::Result<()> {
+fn show_answer(
+    rt: &HostRuntime,
+    answer: Result<Answer, Refusal>,
+    log: &[Trade],
+) -> anyhow::Result<()> {
     match answer {
-        Answer::Entered(number) => println!(rt; "entered {number}")?,
-        Answer::Cut => println!(rt; "cut")?,
-        Answer::Withdrawn => println!(rt; "withdrawn")?,
-        Answer::Indicated(told) => {
+        Ok(Answer::Entered(number)) => println!(rt; "entered {number}")?,
+        Ok(Answer::Cut) => println!(rt; "cut")?,
+        Ok(Answer::Withdrawn) => println!(rt; "withdrawn")?,
+        Ok(Answer::Indicated(told)) => {
             println!(rt;
                 "indicated {} {} {}",
                 told.price, told.volume, told.imbalance
             )?;
         }
-        Answer::Uncrossed { told, first, count } => {
+        Ok(Answer::Uncrossed { told, first, count }) => {
             println!(rt;
                 "uncrossed {} {} {}",
                 told.price, told.volume, told.imbalance
@@ -29,7 +33,7 @@ fn show_answer(rt: &HostRuntime, answer: Answer, log: &[Trade]) -> anyhow::Resul
                 show_trade(rt, *trade)?;
             }
         }
-        Answer::Refused(why) => println!(rt; "refused {}", why.code())?,
+        Err(why) => println!(rt; "refused {}", u8::from(why))?,
     }
     Ok(())
 }
