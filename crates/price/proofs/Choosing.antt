@@ -5,10 +5,11 @@ use Rattle.book.specs.Meaning.{Order}
 use Rattle.rules.specs.Schedule.{Schedule, schedule, Positive, Zero}
 use Rattle.rules.specs.Crossings.{Crossing, Same, LowestSame}
 use Rattle.rules.proofs.Decisions.{Lower, Upper}
-use Rattle.price.specs.Steps.{Crossed, TradedAt, pair_volume, pair_size, GoesUp, Stays}
+use Rattle.price.specs.declared.quantities.Quantities.{Quantities}
+use Rattle.price.specs.Steps.{Crossed, TradedAt, volume_of, size_of, GoesUp, Stays}
 
 -- what is not between the two does not trade
-pub traded_none : (k : Schedule) (least most m : ℕ) → Crossed k least most → (m < least) ⊎ (most < m) → TradedAt k m (0, 0)
+pub traded_none : (k : Schedule) (least most m : ℕ) → Crossed k least most → (m < least) ⊎ (most < m) → TradedAt k m (record { bought = 0; sold = 0 })
 traded_none k least most m c out =
     record {
       volume_is = λ a. ⊎_elim (λ lt. omega (arith, c.below m lt)) (λ gt. omega (arith, c.above m gt a.high)) out;
@@ -16,7 +17,7 @@ traded_none k least most m c out =
       price = λ h. absurd (omega arith);
     }
 
-pub traded_here : (k : Schedule) (least most m : ℕ) (at : ℕ × ℕ) → Crossed k least most → least ≤ m → m ≤ most → at.0 ≡ k.bought m → at.1 ≡ k.sold m → TradedAt k m at
+pub traded_here : (k : Schedule) (least most m : ℕ) (at : Quantities) → Crossed k least most → least ≤ m → m ≤ most → at.bought ≡ k.bought m → at.sold ≡ k.sold m → TradedAt k m at
 traded_here k least most m at c le ge b s =
     record {
       volume_is = λ _. omega arith;
@@ -24,9 +25,9 @@ traded_here k least most m at c le ge b s =
       price = λ _. record { low = omega (arith, c.one); high = omega (arith, c.within) };
     }
 
-module _ (k : Schedule) (least most p : ℕ) (c : Crossed k least most) (t : Crossing k p) (from : least ≤ p + 1) (to : p ≤ most) (a b : ℕ × ℕ) (here : TradedAt k p a) (next : TradedAt k (p + 1) b) where
+module _ (k : Schedule) (least most p : ℕ) (c : Crossed k least most) (t : Crossing k p) (from : least ≤ p + 1) (to : p ≤ most) (a b : Quantities) (here : TradedAt k p a) (next : TradedAt k (p + 1) b) where
   -- one of the two trades
-  some : (0 < pair_volume a) ⊎ (0 < pair_volume b)
+  some : (0 < volume_of a) ⊎ (0 < volume_of b)
   some =
       ⊎_elim
       (λ lt.
@@ -40,7 +41,7 @@ module _ (k : Schedule) (least most p : ℕ) (c : Crossed k least most) (t : Cro
 
   pub upper : GoesUp a b → Upper k p
   upper h =
-      let trades : 0 < pair_volume b = ⊎_elim (λ x. omega arith) (λ x. x) some in
+      let trades : 0 < volume_of b = ⊎_elim (λ x. omega arith) (λ x. x) some in
       let at_next = next.price trades in
       let v = next.volume_is at_next in
       let s = next.size_is trades in
@@ -53,7 +54,7 @@ module _ (k : Schedule) (least most p : ℕ) (c : Crossed k least most) (t : Cro
       }
 
   module _ (h : Stays a b) where
-    trades_here : 0 < pair_volume a
+    trades_here : 0 < volume_of a
     trades_here = ⊎_elim (λ x. x) (λ x. omega arith) some
 
     pub lower : Lower k p
@@ -70,14 +71,14 @@ module _ (k : Schedule) (least most p : ℕ) (c : Crossed k least most) (t : Cro
               ⊎_elim (λ less. inl (omega arith)) (λ e. let z = next.size_is (omega arith) in inr (omega arith, omega arith)) h;
         }
 
-    pub positive : 0 < pair_size a → Positive k p
+    pub positive : 0 < size_of a → Positive k p
     positive some_size =
         let at_p = here.price trades_here in
         let s = here.size_is trades_here in
         let e = t.upto p at_p.low (omega arith) in
         omega arith
 
-    pub level : pair_size a ≡ 0 → Zero k p
+    pub level : size_of a ≡ 0 → Zero k p
     level none = let s = here.size_is trades_here in omega arith
 
     -- nothing is sold below the lowest price that trades

@@ -1,38 +1,57 @@
-// What a pair of quantities, bought and sold at a price, says.
+// What the quantities, bought and sold at a price, say.
 ghost use Rattle.std.specs.Prelude.{◌≡◌, ◌+◌, ◌-◌, ◌<◌, ◌≤◌, min, pos, ◌-ℤ◌, MatchBool};
 ghost use Rattle.price.specs.Steps.{GoesUp, Stays};
 ghost use Rattle.rules.specs.Schedule.{mean};
 
 use session::rounded;
 
-/// What trades: the smaller of what is bought and what is sold.
-pub(crate) fn volume(at: (u32, u32)) -> u32
-    ensures { result ≡ min at.0 at.1 }
-{
-    at.0.min(at.1)
+/// How many contracts are bought at a price, and how many are sold.
+#[derive(Clone, Copy, PartialEq, Eq)]
+pub(crate) struct Quantities {
+    pub(crate) bought: u32,
+    pub(crate) sold: u32,
 }
 
-/// Bought minus sold, with its sign.
-pub(crate) fn imbalance(at: (u32, u32)) -> i64
-    ensures { result ≡ pos at.0 -ℤ pos at.1 }
-{
-    i64::from(at.0) - i64::from(at.1)
+/// A book answers the two as a pair.
+impl From<(u32, u32)> for Quantities {
+    ghost from_gives = { λ pair at. (at.bought ≡ pair.0) × (at.sold ≡ pair.1) };
+
+    fn from(pair: (u32, u32)) -> Quantities {
+        let (bought, sold) = pair;
+        Quantities { bought, sold }
+    }
 }
 
-/// The imbalance without its sign.
-pub(crate) fn size(at: (u32, u32)) -> u32
-    ensures { result ≡ (at.0 - at.1) + (at.1 - at.0) }
-{
-    at.0.abs_diff(at.1)
-}
+impl Quantities {
+    /// What trades: the smaller of what is bought and what is sold.
+    pub(crate) fn volume(self) -> u32
+        ensures { result ≡ min self.bought self.sold }
+    {
+        self.bought.min(self.sold)
+    }
 
-/// Whether the next price is preferred: for its volume, or at the same volume for an imbalance that is no larger.
-pub(crate) fn goes_up(here: (u32, u32), next: (u32, u32)) -> bool
-    ensures { MatchBool result (GoesUp here next) (Stays here next) }
-{
-    let more = volume(next);
-    let held = volume(here);
-    more > held || more == held && size(next) <= size(here)
+    /// Bought minus sold, with its sign.
+    pub(crate) fn imbalance(self) -> i64
+        ensures { result ≡ pos self.bought -ℤ pos self.sold }
+    {
+        i64::from(self.bought) - i64::from(self.sold)
+    }
+
+    /// The imbalance without its sign.
+    pub(crate) fn size(self) -> u32
+        ensures { result ≡ (self.bought - self.sold) + (self.sold - self.bought) }
+    {
+        self.bought.abs_diff(self.sold)
+    }
+
+    /// Whether the next price is preferred: for its volume, or at the same volume for an imbalance that is no larger.
+    pub(crate) fn goes_up(self, next: Quantities) -> bool
+        ensures { MatchBool result (GoesUp self next) (Stays self next) }
+    {
+        let more = next.volume();
+        let held = self.volume();
+        more > held || more == held && next.size() <= self.size()
+    }
 }
 
 /// The mean of two prices in ticks, to the nearest tick and half a tick upward.

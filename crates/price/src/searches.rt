@@ -8,7 +8,7 @@ ghost use Rattle.price.specs.Indications.{indication_answer, Indicated};
 ghost use Rattle.price.specs.Steps.{Crossed, TradedAt};
 
 use crate::indications::Indication;
-use crate::quantities::{goes_up, imbalance, middle, size, volume};
+use crate::quantities::{Quantities, middle};
 use book::{OrderBook, Side};
 use session::{Session, SessionRefusal};
 
@@ -58,14 +58,14 @@ fn lowest_same<B: OrderBook>(book: &B, least: u32, p: u32) -> u32
 }
 
 /// What is bought and sold at a price, or nothing at one that does not trade.
-fn traded_at<B: OrderBook>(book: &B, least: u32, most: u32, m: u32) -> (u32, u32)
+fn traded_at<B: OrderBook>(book: &B, least: u32, most: u32, m: u32) -> Quantities
     requires { Crossed (schedule (B.meaning book.now).orders most) least most }
     ensures { TradedAt (schedule (B.meaning book.now).orders most) m result }
 {
     if m < least || m > most {
-        return (0, 0);
+        return Quantities { bought: 0, sold: 0 };
     }
-    book.at_limit(m)
+    Quantities::from(book.at_limit(m))
 }
 
 /// The equilibrium price in ticks, by the two prices at the crossing: `p` and the next.
@@ -78,10 +78,10 @@ fn price_at<B: OrderBook>(book: &B, least: u32, most: u32, p: u32) -> u32
 {
     let here = traded_at(book, least, most, p);
     let next = traded_at(book, least, most, p + 1);
-    if goes_up(here, next) {
+    if here.goes_up(next) {
         return p + 1;
     }
-    if size(here) > LEVEL {
+    if here.size() > LEVEL {
         return p;
     }
     middle(lowest_same(book, least, p), p)
@@ -110,10 +110,10 @@ pub fn indication<B: OrderBook>(book: &B, session: Session) -> Result<Indication
     let Some(m) = equilibrium_price(book, session) else {
         return Err(SessionRefusal::NoVolume);
     };
-    let at = book.at_limit(m);
+    let at = Quantities::from(book.at_limit(m));
     Ok(Indication {
         price: m * session.tick,
-        volume: volume(at),
-        imbalance: imbalance(at),
+        volume: at.volume(),
+        imbalance: at.imbalance(),
     })
 }
