@@ -3,15 +3,6 @@ use Rattle.std.specs.Prelude.{◌≡◌, ℕ, ◌+◌, ◌-◌, ◌<◌, ◌≤�
 use Rattle.rules.specs.Schedule.{Schedule, Admissible, volume, size}
 use Rattle.price.specs.declared.quantities.Quantities.{Quantities}
 
--- of the admissible prices, just those from low to high trade
-pub record Crossed (k : Schedule) (low high : ℕ) : Type 0 where
-  pub one : 1 ≤ low
-  pub order : low ≤ high
-  pub within : high ≤ k.top
-  pub below : (m : ℕ) → m < low → k.sold m ≡ 0
-  pub above : (m : ℕ) → high < m → m ≤ k.top → k.bought m ≡ 0
-  pub trades : (m : ℕ) → low ≤ m → m ≤ high → 0 < volume k m
-
 -- what is bought and what is sold, by volume and size
 abbrev pub volume_of : Quantities → ℕ
 volume_of at = min at.bought at.sold

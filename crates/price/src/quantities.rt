@@ -1,8 +1,10 @@
 // What the quantities, bought and sold at a price, say.
 ghost use Rattle.std.specs.Prelude.{◌≡◌, ◌+◌, ◌-◌, ◌<◌, ◌≤◌, min, pos, ◌-ℤ◌, MatchBool};
+ghost use Rattle.book.specs.Meaning.{bought_at, sold_at};
 ghost use Rattle.price.specs.Steps.{GoesUp, Stays};
 ghost use Rattle.rules.specs.Schedule.{mean};
 
+use book::OrderBook;
 use session::rounded;
 
 /// How many contracts are bought at a price, and how many are sold.
@@ -12,17 +14,16 @@ pub(crate) struct Quantities {
     pub(crate) sold: u32,
 }
 
-/// A book answers the two as a pair.
-impl From<(u32, u32)> for Quantities {
-    ghost from_gives = { λ pair at. (at.bought ≡ pair.0) × (at.sold ≡ pair.1) };
-
-    fn from(pair: (u32, u32)) -> Quantities {
-        let (bought, sold) = pair;
+impl Quantities {
+    /// What a book has bought and sold at a limit of `m` ticks.
+    pub(crate) fn at<B: OrderBook>(book: &B, m: u32) -> Quantities
+        ensures bought { result.bought ≡ bought_at (B.meaning book.now) m }
+        ensures sold { result.sold ≡ sold_at (B.meaning book.now) m }
+    {
+        let (bought, sold) = book.at_limit(m);
         Quantities { bought, sold }
     }
-}
 
-impl Quantities {
     /// What trades: the smaller of what is bought and what is sold.
     pub(crate) fn volume(self) -> u32
         ensures { result ≡ min self.bought self.sold }
@@ -45,6 +46,7 @@ impl Quantities {
     }
 
     /// Whether the next price is preferred: for its volume, or at the same volume for an imbalance that is no larger.
+    // It stays written out: in an order of pairs the sizes would have to change places with the volumes.
     pub(crate) fn goes_up(self, next: Quantities) -> bool
         ensures { MatchBool result (GoesUp self next) (Stays self next) }
     {
@@ -58,5 +60,6 @@ impl Quantities {
 pub(crate) fn middle(low: u32, high: u32) -> u32
     ensures { result ≡ mean low high }
 {
-    rounded(1, u64::from(low) + u64::from(high), 2).unwrap() as u32
+    let mean = rounded(1, u64::from(low) + u64::from(high), 2).unwrap();
+    u32::try_from(mean).unwrap()
 }
