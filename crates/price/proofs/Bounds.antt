@@ -8,7 +8,7 @@ use Rattle.book.proofs.Bests.{no_best, best_stops, best_trades}
 use Rattle.rules.specs.Schedule.{schedule, volume, Admissible}
 use Rattle.rules.specs.Prices.{Fullest, Kept, Highest, Lowest, Chosen, NothingTrades}
 use Rattle.rules.specs.Prices.Chosen.{positive, negative, mixed, level}
-use Rattle.price.specs.Steps.{Crossed}
+use Rattle.price.specs.Crossed.{Crossed}
 
 pub no_buys : (os : List Order) (top : ℕ) → None ≡ at_place (ranked Buy os) 1 → NothingTrades (schedule os top)
 no_buys os top e n a = omega (arith, no_best Buy os (sym e) n)

@@ -2,13 +2,17 @@
 use Rattle.std.proofs.Common.{◌≡◌, ℕ, ◌+◌, ◌<◌, ◌≤◌, ◌⊎◌, List, inl, inr, ⊎_elim, arith}
 use Rattle.std.proofs.lemmas.Bool.{cases_lt}
 use Rattle.book.specs.Meaning.{Order}
-use Rattle.rules.specs.Schedule.{Schedule, schedule, Positive, Zero}
-use Rattle.rules.specs.Crossings.{Crossing, Same, LowestSame}
-use Rattle.rules.proofs.Decisions.{Lower, Upper}
-use Rattle.price.specs.Steps.{Crossed, TradedAt, pair_volume, pair_size, GoesUp, Stays}
+use Rattle.rules.specs.Schedule.{Schedule, schedule, mean, Positive, Zero}
+use Rattle.rules.specs.Crossings.{Crossing, LowestSame}
+use Rattle.rules.specs.Prices.{Chosen}
+use Rattle.rules.proofs.Curves.{monotone}
+use Rattle.rules.proofs.Decisions.{Lower, Upper, decided}
+use Rattle.price.specs.declared.quantities.Quantities.{Quantities}
+use Rattle.price.specs.Crossed.{Crossed}
+use Rattle.price.specs.Steps.{TradedAt, volume_of, size_of, GoesUp, Stays}
 
 -- what is not between the two does not trade
-pub traded_none : (k : Schedule) (least most m : ℕ) → Crossed k least most → (m < least) ⊎ (most < m) → TradedAt k m (0, 0)
+pub traded_none : (k : Schedule) (least most m : ℕ) → Crossed k least most → (m < least) ⊎ (most < m) → TradedAt k m (record { bought = 0; sold = 0 })
 traded_none k least most m c out =
     record {
       volume_is = λ a. ⊎_elim (λ lt. omega (arith, c.below m lt)) (λ gt. omega (arith, c.above m gt a.high)) out;
@@ -16,7 +20,7 @@ traded_none k least most m c out =
       price = λ h. absurd (omega arith);
     }
 
-pub traded_here : (k : Schedule) (least most m : ℕ) (at : ℕ × ℕ) → Crossed k least most → least ≤ m → m ≤ most → at.0 ≡ k.bought m → at.1 ≡ k.sold m → TradedAt k m at
+pub traded_here : (k : Schedule) (least most m : ℕ) (at : Quantities) → Crossed k least most → least ≤ m → m ≤ most → at.bought ≡ k.bought m → at.sold ≡ k.sold m → TradedAt k m at
 traded_here k least most m at c le ge b s =
     record {
       volume_is = λ _. omega arith;
@@ -24,9 +28,9 @@ traded_here k least most m at c le ge b s =
       price = λ _. record { low = omega (arith, c.one); high = omega (arith, c.within) };
     }
 
-module _ (k : Schedule) (least most p : ℕ) (c : Crossed k least most) (t : Crossing k p) (from : least ≤ p + 1) (to : p ≤ most) (a b : ℕ × ℕ) (here : TradedAt k p a) (next : TradedAt k (p + 1) b) where
+module _ (k : Schedule) (least most p : ℕ) (c : Crossed k least most) (t : Crossing k p) (from : least ≤ p + 1) (to : p ≤ most) (a b : Quantities) (here : TradedAt k p a) (next : TradedAt k (p + 1) b) where
   -- one of the two trades
-  some : (0 < pair_volume a) ⊎ (0 < pair_volume b)
+  some : (0 < volume_of a) ⊎ (0 < volume_of b)
   some =
       ⊎_elim
       (λ lt.
@@ -38,9 +42,9 @@ module _ (k : Schedule) (least most p : ℕ) (c : Crossed k least most) (t : Cro
       inl (omega (arith, c.trades p le to)))
       (cases_lt p least)
 
-  pub upper : GoesUp a b → Upper k p
+  upper : GoesUp a b → Upper k p
   upper h =
-      let trades : 0 < pair_volume b = ⊎_elim (λ x. omega arith) (λ x. x) some in
+      let trades : 0 < volume_of b = ⊎_elim (λ x. omega arith) (λ x. x) some in
       let at_next = next.price trades in
       let v = next.volume_is at_next in
       let s = next.size_is trades in
@@ -53,10 +57,10 @@ module _ (k : Schedule) (least most p : ℕ) (c : Crossed k least most) (t : Cro
       }
 
   module _ (h : Stays a b) where
-    trades_here : 0 < pair_volume a
+    trades_here : 0 < volume_of a
     trades_here = ⊎_elim (λ x. x) (λ x. omega arith) some
 
-    pub lower : Lower k p
+    lower : Lower k p
     lower =
         let at_p = here.price trades_here in
         let v = here.volume_is at_p in
@@ -70,32 +74,37 @@ module _ (k : Schedule) (least most p : ℕ) (c : Crossed k least most) (t : Cro
               ⊎_elim (λ less. inl (omega arith)) (λ e. let z = next.size_is (omega arith) in inr (omega arith, omega arith)) h;
         }
 
-    pub positive : 0 < pair_size a → Positive k p
+    positive : 0 < size_of a → Positive k p
     positive some_size =
         let at_p = here.price trades_here in
         let s = here.size_is trades_here in
         let e = t.upto p at_p.low (omega arith) in
         omega arith
 
-    pub level : pair_size a ≡ 0 → Zero k p
+    level : size_of a ≡ 0 → Zero k p
     level none = let s = here.size_is trades_here in omega arith
 
-    -- nothing is sold below the lowest price that trades
-    pub none_below : (m : ℕ) → m < least → Same k p m → ⊥
-    none_below m lt same =
-        let at_p = here.price trades_here in
-        let v = here.volume_is at_p in
-        let one = trades_here in
-        let sells = same.1 in
-        omega (arith, c.below m lt)
-
-    pub reached : least ≤ p
+    reached : least ≤ p
     reached =
         let at_p = here.price trades_here in
         let v = here.volume_is at_p in
         let one = trades_here in
         ⊎_elim (λ lt. absurd (omega (arith, c.below p lt))) (λ le. le) (cases_lt p least)
 
--- the lowest price at which the same is bought and sold does not depend on the top
-pub lowest_like : (os : List Order) (top top' p m : ℕ) → LowestSame (schedule os top) p m → LowestSame (schedule os top') p m
-lowest_like os top top' p m h = record { low = h.low; high = h.high; same = h.same; bound = h.bound }
+-- what is chosen, and that the lower of the two trades if it stays
+pub record Settled (k : Schedule) (least p : ℕ) (a b : Quantities) : Type 0 where
+  pub up : GoesUp a b → Chosen k (p + 1)
+  pub stays : Stays a b → 0 < size_of a → Chosen k p
+  pub between : Stays a b → size_of a ≡ 0 → (m : ℕ) → LowestSame k p m → Chosen k (mean m p)
+  pub reached : Stays a b → least ≤ p
+
+pub settled : (os : List Order) (least most p : ℕ) → Crossed (schedule os most) least most → Crossing (schedule os most) p → least ≤ p + 1 → (a b : Quantities) → TradedAt (schedule os most) p a → TradedAt (schedule os most) (p + 1) b → Settled (schedule os most) least p a b
+settled os least most p c t from a b here next =
+    let k = schedule os most in
+    let d = decided k (monotone os most) p t in
+    record {
+      up = λ h. d.upper (upper k least most p c t from t.within a b here next h);
+      stays = λ h some. d.lower (lower k least most p c t from t.within a b here next h) (positive k least most p c t from t.within a b here next h some);
+      between = λ h none. d.level (lower k least most p c t from t.within a b here next h) (level k least most p c t from t.within a b here next h none);
+      reached = reached k least most p c t from t.within a b here next;
+    }

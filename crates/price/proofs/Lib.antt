@@ -1,4 +1,4 @@
-mod Bisections
+mod Turns
 mod Bounds
 mod Choosing
 pub mod Outcomes

@@ -1,2 +1,3 @@
+pub mod Crossed
 pub mod Indications
 pub mod Steps

@@ -1,7 +1,9 @@
 // The equilibrium price of any book, found by two bisections.
 #![tactic(auto)]
 
+mod bisections;
 mod indications;
+mod markets;
 mod quantities;
 mod searches;
 

@@ -1,91 +1,14 @@
-// The price search: two bisections over what is bought and sold at a limit.
-ghost use Rattle.std.specs.Prelude.{◌≡◌, ℕ, ◌+◌, ◌<◌, ◌≤◌};
-ghost use Rattle.rules.specs.Crossings.{Crossing, Same, LowestSame};
+// The equilibrium price of a book, and what it would trade.
+ghost use Rattle.std.specs.Prelude.{◌≡◌};
 ghost use Rattle.rules.specs.Literal.{equilibrium};
-ghost use Rattle.rules.specs.Prices.{Chosen};
-ghost use Rattle.rules.specs.Schedule.{schedule, offered};
+ghost use Rattle.rules.specs.Schedule.{offered};
 ghost use Rattle.price.specs.Indications.{indication_answer, Indicated};
-ghost use Rattle.price.specs.Steps.{Crossed, TradedAt};
 
 use crate::indications::Indication;
-use crate::quantities::{goes_up, imbalance, middle, size, volume};
+use crate::markets::Market;
+use crate::quantities::Quantities;
 use book::{OrderBook, Side};
 use session::{Session, SessionRefusal};
-
-/// The size of an imbalance of 0.
-const LEVEL: u32 = 0;
-
-/// The highest price up to `most` at which no less is bought than sold, or the one below `least`.
-fn crossing<B: OrderBook>(book: &B, least: u32, most: u32) -> u32
-    requires { Crossed (schedule (B.meaning book.now).orders most) least most }
-    ensures crossing { Crossing (schedule (B.meaning book.now).orders most) result }
-    ensures low { least ≤ result + 1 }
-{
-    let mut low = least - 1;
-    let mut high = most;
-    while low < high {
-        let middle = high - (high - low) / 2;
-        let (bought, sold) = book.at_limit(middle);
-        if bought >= sold {
-            low = middle;
-        } else {
-            high = middle - 1;
-        }
-    }
-    low
-}
-
-/// The lowest price, from `least` on, at which the same is bought and sold as at `p`.
-fn lowest_same<B: OrderBook>(book: &B, least: u32, p: u32) -> u32
-    requires one { 1 ≤ least }
-    requires order { least ≤ p }
-    requires below { (m : ℕ) → m < least → Same (schedule (B.meaning book.now).orders p) p m → ⊥ }
-    ensures { LowestSame (schedule (B.meaning book.now).orders p) p result }
-{
-    let (bought, sold) = book.at_limit(p);
-    let mut low = least;
-    let mut high = p;
-    while low < high {
-        let middle = low + (high - low) / 2;
-        let (buys, sells) = book.at_limit(middle);
-        if buys == bought && sells == sold {
-            high = middle;
-        } else {
-            low = middle + 1;
-        }
-    }
-    low
-}
-
-/// What is bought and sold at a price, or nothing at one that does not trade.
-fn traded_at<B: OrderBook>(book: &B, least: u32, most: u32, m: u32) -> (u32, u32)
-    requires { Crossed (schedule (B.meaning book.now).orders most) least most }
-    ensures { TradedAt (schedule (B.meaning book.now).orders most) m result }
-{
-    if m < least || m > most {
-        return (0, 0);
-    }
-    book.at_limit(m)
-}
-
-/// The equilibrium price in ticks, by the two prices at the crossing: `p` and the next.
-fn price_at<B: OrderBook>(book: &B, least: u32, most: u32, p: u32) -> u32
-    requires crossed { Crossed (schedule (B.meaning book.now).orders most) least most }
-    requires crossing { Crossing (schedule (B.meaning book.now).orders most) p }
-    requires low { least ≤ p + 1 }
-    requires small { most ≤ 10000000 }
-    ensures { Chosen (schedule (B.meaning book.now).orders most) result }
-{
-    let here = traded_at(book, least, most, p);
-    let next = traded_at(book, least, most, p + 1);
-    if goes_up(here, next) {
-        return p + 1;
-    }
-    if size(here) > LEVEL {
-        return p;
-    }
-    middle(lowest_same(book, least, p), p)
-}
 
 /// The equilibrium price in ticks, or `None` if no admissible price has volume above 0.
 pub fn equilibrium_price<B: OrderBook>(book: &B, session: Session) -> Option<u32>
@@ -98,8 +21,8 @@ pub fn equilibrium_price<B: OrderBook>(book: &B, session: Session) -> Option<u32
     if least > most {
         return None;
     }
-    let p = crossing(book, least, most);
-    Some(price_at(book, least, most, p))
+    let market = Market { book, least, most };
+    Some(market.price())
 }
 
 /// The price, volume and imbalance that an uncrossing would have now, refused if nothing would trade.
@@ -110,10 +33,10 @@ pub fn indication<B: OrderBook>(book: &B, session: Session) -> Result<Indication
     let Some(m) = equilibrium_price(book, session) else {
         return Err(SessionRefusal::NoVolume);
     };
-    let at = book.at_limit(m);
+    let at = Quantities::at(book, m);
     Ok(Indication {
         price: m * session.tick,
-        volume: volume(at),
-        imbalance: imbalance(at),
+        volume: at.volume(),
+        imbalance: at.imbalance(),
     })
 }

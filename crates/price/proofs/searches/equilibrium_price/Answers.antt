@@ -17,22 +17,11 @@ returns-then-least-most g c =
     let most = c.min-most.ensures ∙ ap (min buy.body.limit) c.ceiling.ensures in
     sym (equilibrium_is _ None (apart _ (ceiling c.args.session.tick c.args.session.scarcity) _ (order_of buy) (order_of c.in_ok-sell.sell) c.in_ok-buy.ensures c.in_ok-sell.ensures most c.if-least-most.true))
 
-pub crossing-p-requires : goal.crossing-p-requires
-crossing-p-requires g c =
+pub invariant_of-market-clause-crossed : goal.invariant_of-market-clause-crossed
+invariant_of-market-clause-crossed g c =
     let buy = c.in_ok-buy.buy in
     let sell = c.in_ok-sell.sell in
     crossed _ c.ceiling.result _ (order_of buy) (order_of sell) c.in_ok-buy.ensures c.in_ok-sell.ensures c.min-most.ensures buy.body.sized.0 sell.body.sized.0 sell.body.limited.0 c.if-least-most.false
-
-pub price_at-requires : goal.price_at-requires
-price_at-requires g c =
-    let buy = c.in_ok-buy.buy in
-    let sell = c.in_ok-sell.sell in
-    record {
-      crossed = crossed _ c.ceiling.result _ (order_of buy) (order_of sell) c.in_ok-buy.ensures c.in_ok-sell.ensures c.min-most.ensures buy.body.sized.0 sell.body.sized.0 sell.body.limited.0 c.if-least-most.false;
-      crossing = c.crossing-p.ensures.crossing;
-      low = c.crossing-p.ensures.low;
-      small = omega (arith, c.min-most.ensures, buy.body.limited.1);
-    }
 
 pub returns : goal.returns
 returns g c =
@@ -41,4 +30,4 @@ returns g c =
     let top = ceiling c.args.session.tick c.args.session.scarcity in
     let most = c.min-most.ensures ∙ ap (min buy.body.limit) c.ceiling.ensures in
     let le : c.min-most.result ≤ top = omega (arith, most) in
-    sym (equilibrium_is _ (Some c.price_at.result) (wide_chosen _ top _ le (dead _ top _ (order_of buy) (order_of sell) c.in_ok-buy.ensures c.in_ok-sell.ensures most) _ c.price_at.ensures))
+    sym (equilibrium_is _ (Some c.price.result) (wide_chosen _ top _ le (dead _ top _ (order_of buy) (order_of sell) c.in_ok-buy.ensures c.in_ok-sell.ensures most) _ c.price.ensures))

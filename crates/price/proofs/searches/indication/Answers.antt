@@ -20,5 +20,5 @@ returns g c =
     let b = g.B.OrderBook.meaning c.args.book.now in
     let fits : SFits w64 c.imbalance.result = search rules in
     let imbalance = to_z-of_z fits ∙ c.imbalance.ensures in
-    let answer = answer_is b c.args.session.tick c.args.session.scarcity c.in-Some.m c.volume.result c.at_limit-at.result.0 c.at_limit-at.result.1 _ c.in-Some.ensures c.at_limit-at.ensures.bought c.at_limit-at.ensures.sold c.volume.ensures imbalance in
+    let answer = answer_is b c.args.session.tick c.args.session.scarcity c.in-Some.m c.volume.result c.at-at.result.bought c.at-at.result.sold _ c.in-Some.ensures c.at-at.ensures.bought c.at-at.ensures.sold c.volume.ensures imbalance in
     record { answer = answer; indicated = by_answer b c.args.session.tick c.args.session.scarcity c.args.session.ticked.0 _ answer }
