@@ -4,6 +4,7 @@ use Rattle.note.specs.declared.trades.Trade.{Trade}
 use Rattle.book.specs.Meaning.{Book}
 use Rattle.trading.specs.declared.calls.Call.{Call}
 use Rattle.trading.specs.declared.answers.Answer.{Answer}
+use Rattle.trading.specs.declared.refusals.Refusal.{Refusal}
 use Rattle.trading.specs.Replies.{Reply, outcome, replies, read_all as replies_read}
 use Rattle.feed.specs.declared.faults.Fault.{Fault}
 use Rattle.feed.specs.declared.steps.Step.{Step}
@@ -16,7 +17,7 @@ unfolding replies
 replies_length tick scarcity places m [] = refl
 replies_length tick scarcity places m (c ∷ cs) = ap suc (replies_length tick scarcity places (outcome tick scarcity places m c).after cs)
 
-pub read_length : (log : List Trade) (answers : List Answer) → length (replies_read log answers) ≡ length answers
+pub read_length : (log : List Trade) (answers : List (Result Answer Refusal)) → length (replies_read log answers) ≡ length answers
 unfolding replies_read
 read_length log [] = refl
 read_length log (a ∷ answers) = ap suc (read_length log answers)

@@ -9,6 +9,7 @@ use Rattle.session.specs.declared.sessions.Session.{Session}
 use Rattle.session.specs.Ranges.{is_tick, is_price}
 use Rattle.trading.specs.declared.calls.Call.{Call}
 use Rattle.trading.specs.declared.answers.Answer.{Answer}
+use Rattle.trading.specs.declared.refusals.Refusal.{Refusal}
 use Rattle.trading.specs.Replies.{Reply, read_all as replies_read}
 use Rattle.feed.specs.declared.faults.Fault.{Fault}
 use Rattle.feed.specs.declared.replies.Done.{Done}
@@ -60,7 +61,7 @@ pub silent : (feed : List ℕ) (session : Option Session) (steps : List (Result 
 silent feed session steps calls s =
     subst (λ t. Silent t calls) (sym s.session_is) (subst (λ cs. Silent (terms_after_all None s.lines) cs) (sym s.calls_are) (silent_lines 1 s.lines))
 
-pub no_calls : (t : Option Terms) (m : Book) (register : List Trade) (cs : List Call) (answers : List Answer) (log : List Trade) → t ≡ None → Silent t cs → answers ≡ [] → CarriedOut t m register cs (replies_read log answers) m register
+pub no_calls : (t : Option Terms) (m : Book) (register : List Trade) (cs : List Call) (answers : List (Result Answer Refusal)) (log : List Trade) → t ≡ None → Silent t cs → answers ≡ [] → CarriedOut t m register cs (replies_read log answers) m register
 unfolding replies_read
 no_calls t m register cs answers log e s a =
     subst (λ u. Silent u cs → CarriedOut u m register cs (replies_read log answers) m register) (sym e) (λ silent. (silent, ap (replies_read log) a, refl, refl)) s
@@ -72,7 +73,7 @@ carried_length None m register cs rs m' register' h = ap length h.1 ∙ sym (ap 
 carried_length (Some t) m register cs rs m' register' h = ap length h.replies_are ∙ replies_length t.tick t.scarcity (length register) m cs
 
 -- The steps, the calls and the answers, each read through a slice.
-module _ (feed : List ℕ) (session : Option Session) (steps steps' : List (Result Step Fault)) (calls calls' : List Call) (m : Book) (register : List Trade) (answers answers' : List Answer) (log : List Trade) (m' : Book) (register' : List Trade)
+module _ (feed : List ℕ) (session : Option Session) (steps steps' : List (Result Step Fault)) (calls calls' : List Call) (m : Book) (register : List Trade) (answers answers' : List (Result Answer Refusal)) (log : List Trade) (m' : Book) (register' : List Trade)
     (es : steps' ≡ steps) (ec : calls' ≡ calls) (ea : answers' ≡ answers)
     (s : Scripted feed session steps calls) (h : CarriedOut (terms_of session) m register calls' (replies_read log answers) m' register') where
   pub each_answered : length answers' ≡ length (calls_of steps')

@@ -5,6 +5,7 @@ use Rattle.std.proofs.lemmas.List.{drop_more, drop_all}
 use Rattle.note.specs.declared.trades.Trade.{Trade}
 use Rattle.trading.specs.declared.calls.Call.{Call}
 use Rattle.trading.specs.declared.answers.Answer.{Answer}
+use Rattle.trading.specs.declared.refusals.Refusal.{Refusal}
 use Rattle.trading.specs.Replies.{read as reply_read, read_all as replies_read}
 use Rattle.feed.specs.declared.faults.Fault.{Fault}
 use Rattle.feed.specs.declared.places.Places.{Places}
@@ -21,25 +22,25 @@ read_all_snoc log [] a = refl
 read_all_snoc log (b ∷ answers) a = ap (λ rs. read log b ∷ rs) (read_all_snoc log answers a)
 
 -- the replies so far, and what the lines that are left are told, are what all lines are told; each call that is left has its answer
-pub record Telling (ss : List (Result Step Fault)) (answers : List Answer) (replies : List (Result Done Fault)) (i next : ℕ) : Type 0 where
+pub record Telling (ss : List (Result Step Fault)) (answers : List (Result Answer Refusal)) (replies : List (Result Done Fault)) (i next : ℕ) : Type 0 where
   pub told : (log : List Trade) → read_all log replies ++ told_all (drop i ss) (replies_read log (drop next answers)) ≡ told_all ss (replies_read log answers)
   pub asked : next + length (calls_of (drop i ss)) ≡ length answers
 
-pub tell_none : (ss : List (Result Step Fault)) (answers : List Answer) (replies : List (Result Done Fault)) → length answers ≡ length (calls_of ss) → replies ≡ [] → Telling ss answers replies 0 0
+pub tell_none : (ss : List (Result Step Fault)) (answers : List (Result Answer Refusal)) (replies : List (Result Done Fault)) → length answers ≡ length (calls_of ss) → replies ≡ [] → Telling ss answers replies 0 0
 unfolding read_all
 tell_none ss answers replies e none = record { told = λ log. ap (λ rs. read_all log rs ++ told_all ss (replies_read log answers)) none; asked = omega (arith, e) }
 
 -- one line: an opening, a fault, or a call with its answer
 
-pub one_opening : (s : Result Step Fault) (answers : List Answer) (k : ℕ) → s ≡ Ok Opening → AnswersOne s answers k (Ok Accepted) k
+pub one_opening : (s : Result Step Fault) (answers : List (Result Answer Refusal)) (k : ℕ) → s ≡ Ok Opening → AnswersOne s answers k (Ok Accepted) k
 unfolding told_all
 one_opening s answers k e = subst (λ x. AnswersOne x answers k (Ok Accepted) k) (sym e) (record { head = λ log ss. refl; taken = omega arith })
 
-pub one_fault : (s : Result Step Fault) (fault : Fault) (answers : List Answer) (k : ℕ) → s ≡ Err fault → AnswersOne s answers k (Err fault) k
+pub one_fault : (s : Result Step Fault) (fault : Fault) (answers : List (Result Answer Refusal)) (k : ℕ) → s ≡ Err fault → AnswersOne s answers k (Err fault) k
 unfolding told_all
 one_fault s fault answers k e = subst (λ x. AnswersOne x answers k (Err fault) k) (sym e) (record { head = λ log ss. refl; taken = omega arith })
 
-pub one_call : (s : Result Step Fault) (c : Call) (p : Places) (answers : List Answer) (k : ℕ) (d : Answer) (r : Result Done Fault) → s ≡ Ok (Asking c p) → k < length answers
+pub one_call : (s : Result Step Fault) (c : Call) (p : Places) (answers : List (Result Answer Refusal)) (k : ℕ) (d : Result Answer Refusal) (r : Result Done Fault) → s ≡ Ok (Asking c p) → k < length answers
     → ((log : List Trade) → read log r ≡ told_of p (reply_read log (get_or answers k d))) → AnswersOne s answers k r (k + 1)
 unfolding told_all replies_read
 one_call s c p answers k d r e lt reads = subst (λ x. AnswersOne x answers k r (k + 1)) (sym e) (record {
@@ -53,7 +54,7 @@ counted (Ok Opening) ss = omega arith
 counted (Ok (Asking c p)) ss = omega arith
 counted (Err fault) ss = omega arith
 
-module _ (ss : List (Result Step Fault)) (answers : List Answer) (replies : List (Result Done Fault)) (i k : ℕ) (d : Result Step Fault) where
+module _ (ss : List (Result Step Fault)) (answers : List (Result Answer Refusal)) (replies : List (Result Done Fault)) (i k : ℕ) (d : Result Step Fault) where
   -- a call that is left has its answer
   pub answer_left : i < length ss → Telling ss answers replies i k → Left (get_or ss i d) (length answers) k
   answer_left lt h =
@@ -82,7 +83,7 @@ module _ (ss : List (Result Step Fault)) (answers : List Answer) (replies : List
         asked = omega (arith, subst (λ ds. k + length (calls_of ds) ≡ length answers) left h.asked, counted s rest, one.taken);
       }
 
-module _ (ss : List (Result Step Fault)) (answers : List Answer) (replies : List (Result Done Fault)) (i k : ℕ) where
+module _ (ss : List (Result Step Fault)) (answers : List (Result Answer Refusal)) (replies : List (Result Done Fault)) (i k : ℕ) where
   pub told_whole : length ss ≤ i → Telling ss answers replies i k → (log : List Trade) → read_all log replies ≡ told_all ss (replies_read log answers)
   unfolding told_all
   told_whole le h log = sym (append-nil _) ∙ ap (λ ds. read_all log replies ++ told_all ds (replies_read log (drop k answers))) (sym (drop_all i ss le)) ∙ h.told log

@@ -4,7 +4,7 @@ use Rattle.note.specs.declared.trades.Trade.{Trade}
 use Rattle.price.specs.declared.indications.Indication.{Indication}
 use Rattle.trading.specs.Replies.{Reply, entered, was_cut, withdrawn, indicated, uncrossed, refused, read_all as replies_read}
 use Rattle.trading.specs.declared.answers.Answer.{Answer}
-use Rattle.trading.specs.declared.answers.Answer.TheVariants.{Entered as Answer-as-Entered, Cut as Answer-as-Cut, Withdrawn as Answer-as-Withdrawn, Indicated as Answer-as-Indicated, Uncrossed as Answer-as-Uncrossed, Refused as Answer-as-Refused}
+use Rattle.trading.specs.declared.answers.Answer.TheVariants.{Entered as Answer-as-Entered, Cut as Answer-as-Cut, Withdrawn as Answer-as-Withdrawn, Indicated as Answer-as-Indicated, Uncrossed as Answer-as-Uncrossed}
 use Rattle.trading.specs.declared.refusals.Refusal.{Refusal}
 use Rattle.feed.specs.declared.faults.Fault.{Fault}
 use Rattle.feed.specs.declared.places.Places.{Places}
@@ -39,14 +39,13 @@ told_all (Ok (Asking c p) ∷ js) [] = []
 told_all (Ok (Asking c p) ∷ js) (r ∷ rs) = told_of p r ∷ told_all js rs
 told_all (Err fault ∷ js) rs = faulty fault ∷ told_all js rs
 
--- what was done for a call, or why it was refused
-abbrev pub done_of : Answer → Result Done Refusal
-done_of (Answer-as-Entered n) = Ok (Entered n)
-done_of Answer-as-Cut = Ok Accepted
-done_of Answer-as-Withdrawn = Ok Accepted
-done_of (Answer-as-Indicated told) = Ok Accepted
-done_of (Answer-as-Uncrossed told first count) = Ok (Uncrossed told first count)
-done_of (Answer-as-Refused why) = Err why
+-- what was done for a call
+abbrev pub done_of : Answer → Done
+done_of (Answer-as-Entered n) = Entered n
+done_of Answer-as-Cut = Accepted
+done_of Answer-as-Withdrawn = Accepted
+done_of (Answer-as-Indicated told) = Accepted
+done_of (Answer-as-Uncrossed told first count) = Uncrossed told first count
 
 -- what a caller reads of an answer and the log
 abbrev pub read : List Trade → Result Done Fault → Told
@@ -68,6 +67,6 @@ Left (Ok (Asking c p)) n k = k < n
 Left (Err fault) n k = Unit {0}
 
 -- from the answers behind the first k the line is answered r, which leaves those behind the first k'
-pub record AnswersOne (s : Result Step Fault) (answers : List Answer) (k : ℕ) (r : Result Done Fault) (k' : ℕ) : Type 0 where
+pub record AnswersOne (s : Result Step Fault) (answers : List (Result Answer Refusal)) (k : ℕ) (r : Result Done Fault) (k' : ℕ) : Type 0 where
   pub head : (log : List Trade) (ss : List (Result Step Fault)) → told_all (s ∷ ss) (replies_read log (drop k answers)) ≡ read log r ∷ told_all ss (replies_read log (drop k' answers))
   pub taken : k' ≡ k + length (with_call s [])

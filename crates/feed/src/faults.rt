@@ -1,7 +1,8 @@
 // Why a line is refused, and where.
-ghost use Rattle.std.specs.Prelude.{◌≡◌};
+ghost use Rattle.std.specs.Prelude.{◌≡◌, Some};
 ghost use Rattle.feed.specs.Faults.{number_of, layer_of, layer_text};
 
+use std::fmt;
 use trading::Refusal;
 
 /// Why a line is refused.
@@ -31,18 +32,20 @@ pub struct Fault {
     pub place: usize,
 }
 
-impl Cause {
-    /// The refusal's number.
-    pub fn code(self) -> u8
-        ensures { result ≡ number_of self }
-    {
-        match self {
+/// The refusal's number.
+impl From<Cause> for u8 {
+    ghost from_gives = { λ why code. code ≡ number_of why };
+
+    fn from(why: Cause) -> u8 {
+        match why {
             Cause::Malformed => 1,
             Cause::OutOfTurn => 2,
-            Cause::Refused(why) => why.code(),
+            Cause::Refused(cause) => u8::from(cause),
         }
     }
+}
 
+impl Cause {
     /// The layer that refuses.
     pub fn layer(self) -> Layer
         ensures { result ≡ layer_of self }
@@ -57,6 +60,7 @@ impl Cause {
 
 impl Layer {
     /// The layer's word.
+    // It stays beside `Display`, which promises the word only of a write that went well: here no writer can fail.
     pub fn word(self) -> &'static str
         ensures { result.now ≡ layer_text self }
     {
@@ -65,5 +69,14 @@ impl Layer {
             Layer::Session => "session",
             Layer::Book => "book",
         }
+    }
+}
+
+/// Prints the layer's word.
+impl fmt::Display for Layer {
+    ghost output = { λ layer. Some (layer_text layer) };
+
+    fn fmt<W: fmt::Write>(&self, f: &mut fmt::Formatter<W>) -> fmt::Result {
+        f.write_str(self.word())
     }
 }

@@ -28,29 +28,29 @@ pub enum Done {
     },
 }
 
-/// What was done for a call, or why it was refused.
-fn done_for(answer: Answer) -> Result<Done, Refusal>
+/// What was done for a call.
+// No public conversion: that an indication is told as a plain acceptance would mislead any caller but a feed, which asks for none.
+fn done_for(answer: Answer) -> Done
     ensures { result ≡ done_of answer }
 {
     match answer {
-        Answer::Entered(number) => Ok(Done::Entered(number)),
-        Answer::Cut | Answer::Withdrawn | Answer::Indicated(_) => Ok(Done::Accepted),
-        Answer::Uncrossed { told, first, count } => Ok(Done::Uncrossed { told, first, count }),
-        Answer::Refused(why) => Err(why),
+        Answer::Entered(number) => Done::Entered(number),
+        Answer::Cut | Answer::Withdrawn | Answer::Indicated(_) => Done::Accepted,
+        Answer::Uncrossed { told, first, count } => Done::Uncrossed { told, first, count },
     }
 }
 
 /// The answer to a line of which the call was answered.
-fn answered(places: Places, answer: Answer) -> Result<Done, Fault>
+fn answered(places: Places, answer: Result<Answer, Refusal>) -> Result<Done, Fault>
     ensures { (log : List Trade) → read log result ≡ told_of places (reply_read log answer) }
 {
-    done_for(answer).at(places)
+    Ok(done_for(answer.at(places)?))
 }
 
 /// The answer to a line; a call takes the next of the answers.
 fn answer_line(
     step: Result<Step, Fault>,
-    answers: &[Answer],
+    answers: &[Result<Answer, Refusal>],
     next: &mut usize,
 ) -> Result<Done, Fault>
     requires { Left step (length answers.now) next.old }
@@ -69,7 +69,7 @@ fn answer_line(
 /// Answers each line.
 pub(crate) fn answer_lines(
     steps: &[Result<Step, Fault>],
-    answers: &[Answer],
+    answers: &[Result<Answer, Refusal>],
     replies: &mut Vec<Result<Done, Fault>>,
 )
     requires asked { length answers.now ≡ length (calls_of steps.now) }
