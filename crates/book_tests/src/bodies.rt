@@ -3,18 +3,12 @@ use book::{Body, BookRefusal, Side};
 
 /// The limit and the quantity of a body.
 fn figures(body: Option<Body>) -> Option<(u32, u32)> {
-    match body {
-        Some(body) => Some((body.limit, body.quantity)),
-        None => None,
-    }
+    body.map(|body| (body.limit, body.quantity))
 }
 
 /// The side of a body.
 fn side_of(body: Option<Body>) -> Option<Side> {
-    match body {
-        Some(body) => Some(body.side),
-        None => None,
-    }
+    body.map(|body| body.side)
 }
 
 #[test]
@@ -67,8 +61,8 @@ fn a_body_with_nothing_left_is_none(rt: HostRuntime) {
 
 #[test]
 fn each_refusal_has_its_number(rt: HostRuntime) {
-    assert_eq!(rt; BookRefusal::UnknownOrder.code(), 7);
-    assert_eq!(rt; BookRefusal::CutRange.code(), 8);
-    assert_eq!(rt; BookRefusal::Full.code(), 9);
-    assert_eq!(rt; BookRefusal::NumbersSpent.code(), 10);
+    assert_eq!(rt; u8::from(BookRefusal::UnknownOrder), 7);
+    assert_eq!(rt; u8::from(BookRefusal::CutRange), 8);
+    assert_eq!(rt; u8::from(BookRefusal::Full), 9);
+    assert_eq!(rt; u8::from(BookRefusal::NumbersSpent), 10);
 }

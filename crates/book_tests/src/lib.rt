@@ -8,11 +8,17 @@ mod cutting;
 #[cfg(test)]
 mod entering;
 #[cfg(test)]
+mod intakes;
+#[cfg(test)]
 mod ladders;
 #[cfg(test)]
 mod limits;
 #[cfg(test)]
+mod makes;
+#[cfg(test)]
 mod numbers;
+#[cfg(test)]
+mod orders;
 #[cfg(test)]
 mod ranks;
 #[cfg(test)]
@@ -21,5 +27,3 @@ mod surveys;
 mod tables;
 #[cfg(test)]
 mod tops;
-#[cfg(test)]
-mod views;

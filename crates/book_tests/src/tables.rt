@@ -5,13 +5,12 @@ use table::Table;
 
 #[test]
 fn a_full_table_refuses_and_changes_nothing(rt: HostRuntime) -> Result<(), Fail> {
-    entering::full_book(&rt, &mut Table::new(rt.alloc(), 2)?)
+    entering::full_book::<Table>(&rt, rt.alloc())
 }
 
 #[test]
 fn a_place_is_free_again_and_a_number_is_not(rt: HostRuntime) -> Result<(), Fail> {
-    entering::freed_place(&rt, &mut Table::new(rt.alloc(), 2)?)?;
-    entering::held_place(&rt, &mut Table::new(rt.alloc(), 1)?)
+    entering::places_again::<Table>(&rt, rt.alloc())
 }
 
 #[test]
@@ -34,51 +33,40 @@ fn a_table_offers_at_most_256_places(rt: HostRuntime) -> Result<(), Fail> {
 
 #[test]
 fn a_table_knows_only_live_numbers(rt: HostRuntime) -> Result<(), Fail> {
-    cutting::unknown_numbers(&rt, &mut Table::new(rt.alloc(), 3)?)
+    cutting::unknown_numbers::<Table>(&rt, rt.alloc())
 }
 
 #[test]
 fn a_table_refuses_cuts_out_of_range(rt: HostRuntime) -> Result<(), Fail> {
-    cutting::bad_quantities(&rt, &mut Table::new(rt.alloc(), 3)?)
+    cutting::bad_quantities::<Table>(&rt, rt.alloc())
 }
 
 #[test]
 fn a_table_cuts_to_the_quantity_that_is_left(rt: HostRuntime) -> Result<(), Fail> {
-    cutting::partial_cuts(&rt, &mut Table::new(rt.alloc(), 3)?)?;
-    cutting::cuts_to_0(&rt, &mut Table::new(rt.alloc(), 3)?)
+    cutting::quantities_left::<Table>(&rt, rt.alloc())
 }
 
 #[test]
 fn a_table_ranks_each_side(rt: HostRuntime) -> Result<(), Fail> {
-    ranks::empty_book(&rt, &mut Table::new(rt.alloc(), 5)?);
-    ranks::buys(&rt, &mut Table::new(rt.alloc(), 5)?)?;
-    ranks::sells(&rt, &mut Table::new(rt.alloc(), 5)?)?;
-    ranks::both_sides(&rt, &mut Table::new(rt.alloc(), 5)?)?;
-    ranks::after_cuts(&rt, &mut Table::new(rt.alloc(), 5)?)
+    ranks::all::<Table>(&rt, rt.alloc())
 }
 
 #[test]
 fn a_table_sums_each_side_at_a_limit(rt: HostRuntime) -> Result<(), Fail> {
-    limits::empty_book(&rt, &mut Table::new(rt.alloc(), 6)?);
-    limits::around_each_limit(&rt, &mut Table::new(rt.alloc(), 6)?)?;
-    limits::after_cuts(&rt, &mut Table::new(rt.alloc(), 6)?)?;
-    limits::extreme_limits(&rt, &mut Table::new(rt.alloc(), 6)?)?;
-    limits::largest_sum(&rt, &mut Table::new(rt.alloc(), 256)?)
+    limits::all::<Table>(&rt, rt.alloc())
 }
 
 #[test]
 fn a_table_gives_out_60_000_numbers(rt: HostRuntime) -> Result<(), Fail> {
-    numbers::all_spent(&rt, &mut Table::new(rt.alloc(), 1)?)
+    numbers::all_spent::<Table>(&rt, rt.alloc())
 }
 
 #[test]
 fn a_full_table_at_its_last_number_is_full(rt: HostRuntime) -> Result<(), Fail> {
-    numbers::full_at_the_last(&rt, &mut Table::new(rt.alloc(), 1)?)
+    numbers::full_at_the_last::<Table>(&rt, rt.alloc())
 }
 
 #[test]
 fn a_table_shows_its_best_orders(rt: HostRuntime) -> Result<(), Fail> {
-    tops::empty_sides(&rt, &mut Table::new(rt.alloc(), 4)?)?;
-    tops::crossing(&rt, &mut Table::new(rt.alloc(), 4)?)?;
-    tops::equal_limits(&rt, &mut Table::new(rt.alloc(), 4)?)
+    tops::all::<Table>(&rt, rt.alloc())
 }

@@ -7,7 +7,7 @@ use anyhow::Context;
 use ladder::Ladder;
 use std::env;
 use table::Table;
-use works::{Operation, work};
+use works::work_by_name;
 
 /// The most places of a book.
 const PLACES: usize = 256;
@@ -16,16 +16,14 @@ const PLACES: usize = 256;
 fn run(rt: &HostRuntime) -> anyhow::Result<()> {
     let mut words = env::args(rt)?.skip(1);
     let make = words.next().context("no make")?;
-    let operation = Operation::named(&words.next().context("no operation")?);
+    let operation = words.next().context("no operation")?;
     let orders = words.next().context("no count")?.parse::<u32>()?;
     let sum = if make.as_str() == "table" {
-        work(&mut Table::new(rt.alloc(), PLACES)?, operation, orders)
+        let mut book = Table::new(rt.alloc(), PLACES)?;
+        work_by_name(&mut book, operation.as_str(), orders)
     } else {
-        work(
-            &mut Ladder::new(rt.alloc(), PLACES, PLACES)?,
-            operation,
-            orders,
-        )
+        let mut book = Ladder::new(rt.alloc(), PLACES, PLACES)?;
+        work_by_name(&mut book, operation.as_str(), orders)
     };
     println!(rt; "{sum}")?;
     Ok(())

@@ -1,37 +1,8 @@
-// Operations on any make of book.
+// Steps on any make of book, and doing one a thousand times.
 use book::{Body, Live, OrderBook, Side};
 
-/// What is done a thousand times.
-#[derive(Clone, Copy)]
-pub(crate) enum Operation {
-    /// Nothing, to tell what the rest of the program costs.
-    Nothing,
-    /// An entry and the cut of its whole quantity.
-    Pass,
-    /// Finding each number in turn.
-    Find,
-    /// The order at each place of the buys in turn.
-    Rank,
-    /// The quantities at a limit that the best tenth of the buys meets.
-    Limit,
-}
-
-impl Operation {
-    /// The operation of a name; an unknown name is none.
-    pub(crate) fn named(name: &str) -> Operation {
-        if name == "pass" {
-            Operation::Pass
-        } else if name == "find" {
-            Operation::Find
-        } else if name == "rank" {
-            Operation::Rank
-        } else if name == "limit" {
-            Operation::Limit
-        } else {
-            Operation::Nothing
-        }
-    }
-}
+/// How often a step is done.
+const TIMES: u32 = 1_000;
 
 /// Bodies of both sides in turn, with limits of 1,000 to 1,255 in no order.
 fn body(i: u32) -> Option<Body> {
@@ -41,54 +12,53 @@ fn body(i: u32) -> Option<Body> {
 }
 
 fn fill<B: OrderBook>(book: &mut B, orders: u32) {
-    for i in 0..orders {
-        if let Some(body) = body(i) {
-            let _ = book.enter(body);
-        }
+    for body in (0..orders).filter_map(body) {
+        let _ = book.enter(body);
     }
 }
 
 fn quantity_of(order: Option<Live>) -> u32 {
-    match order {
-        Some(live) => live.body.quantity,
-        None => 0,
-    }
+    order.map_or(0, |live| live.body.quantity)
 }
 
-/// Enters an order and cuts it to 0.
+/// Enters an order and cuts its whole quantity; its number, or 0 if it is refused.
 fn pass<B: OrderBook>(book: &mut B, i: u32) -> u32 {
     let Some(body) = body(i) else {
         return 0;
     };
-    match book.enter(body) {
-        Ok(number) => {
-            let _ = book.cut(number, 5);
-            number
-        }
-        Err(_) => 0,
-    }
+    let Ok(number) = book.enter(body) else {
+        return 0;
+    };
+    let _ = book.cut(number, 5);
+    number
 }
 
-/// Does the operation once, on a book of so many live orders, and answers something of its result.
-fn act<B: OrderBook>(book: &mut B, operation: Operation, orders: u32, i: u32) -> u32 {
-    match operation {
-        Operation::Nothing => i,
-        Operation::Pass => pass(book, i),
-        Operation::Find => quantity_of(book.find(i % orders.max(1) + 1)),
-        Operation::Rank => quantity_of(book.rank(
-            Side::Buy,
-            (i % (orders / 2).max(1) + 1) as usize,
-        )),
-        Operation::Limit => book.at_limit(1_230 + i % 2).0,
-    }
-}
-
-/// Fills the book and does the operation a thousand times.
-pub(crate) fn work<B: OrderBook>(book: &mut B, operation: Operation, orders: u32) -> u32 {
+/// Fills the book with so many orders, and does a step a thousand times. Answers something of the steps' results.
+fn work<B: OrderBook, F: Fn(&mut B, u32) -> u32>(book: &mut B, orders: u32, step: F) -> u32
+    requires { F.IsAlwaysCallable step }
+{
     fill(book, orders);
     let mut sum = 0u32;
-    for i in 0..1_000u32 {
-        sum = sum.wrapping_add(act(book, operation, orders, i));
+    for i in 0..TIMES {
+        sum = sum.wrapping_add(step(book, i));
     }
     sum
+}
+
+/// Works by the step of a name. An unknown name does nothing, to tell what the rest of the program costs.
+pub(crate) fn work_by_name<B: OrderBook>(book: &mut B, name: &str, orders: u32) -> u32 {
+    match name {
+        "pass" => work(book, orders, pass),
+        // Each number in turn.
+        "find" => work(book, orders, |book, i| {
+            quantity_of(book.find(i % orders.max(1) + 1))
+        }),
+        // Each place of the buys in turn.
+        "rank" => work(book, orders, |book, i| {
+            quantity_of(book.rank(Side::Buy, (i % (orders / 2).max(1) + 1) as usize))
+        }),
+        // A limit that the best tenth of the buys meets.
+        "limit" => work(book, orders, |book, i| book.at_limit(1_230 + i % 2).0),
+        _ => work(book, orders, |_, i| i),
+    }
 }
