@@ -11,23 +11,6 @@ use Rattle.price.specs.declared.quantities.Quantities.{Quantities}
 use Rattle.price.specs.Crossed.{Crossed}
 use Rattle.price.specs.Steps.{TradedAt, volume_of, size_of, GoesUp, Stays}
 
--- what is not between the two does not trade
-pub traded_none : (k : Schedule) (least most m : ℕ) → Crossed k least most → (m < least) ⊎ (most < m) → TradedAt k m (record { bought = 0; sold = 0 })
-traded_none k least most m c out =
-    record {
-      volume_is = λ a. ⊎_elim (λ lt. omega (arith, c.below m lt)) (λ gt. omega (arith, c.above m gt a.high)) out;
-      size_is = λ h. absurd (omega arith);
-      price = λ h. absurd (omega arith);
-    }
-
-pub traded_here : (k : Schedule) (least most m : ℕ) (at : Quantities) → Crossed k least most → least ≤ m → m ≤ most → at.bought ≡ k.bought m → at.sold ≡ k.sold m → TradedAt k m at
-traded_here k least most m at c le ge b s =
-    record {
-      volume_is = λ _. omega arith;
-      size_is = λ _. omega arith;
-      price = λ _. record { low = omega (arith, c.one); high = omega (arith, c.within) };
-    }
-
 module _ (k : Schedule) (least most p : ℕ) (c : Crossed k least most) (t : Crossing k p) (from : least ≤ p + 1) (to : p ≤ most) (a b : Quantities) (here : TradedAt k p a) (next : TradedAt k (p + 1) b) where
   -- one of the two trades
   some : (0 < volume_of a) ⊎ (0 < volume_of b)

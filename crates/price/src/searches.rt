@@ -11,6 +11,7 @@ use book::{OrderBook, Side};
 use session::{Session, SessionRefusal};
 
 /// The equilibrium price in ticks, or `None` if no admissible price has volume above 0.
+#[tactic(auto, using(crate::proofs::Bounds::no_buys, crate::proofs::Bounds::no_sells))]
 pub fn equilibrium_price<B: OrderBook>(book: &B, session: Session) -> Option<u32>
     ensures { result ≡ equilibrium (offered (B.meaning book.now) session.tick session.scarcity) }
 {
