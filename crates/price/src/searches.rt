@@ -32,9 +32,7 @@ pub fn indication<B: OrderBook>(book: &B, session: Session) -> Result<Indication
     ensures answer { result ≡ indication_answer (B.meaning book.now) session.tick session.scarcity }
     ensures indicated { Indicated (B.meaning book.now) session.tick session.scarcity result }
 {
-    let Some(m) = equilibrium_price(book, session) else {
-        return Err(SessionRefusal::NoVolume);
-    };
+    let m = equilibrium_price(book, session).ok_or(SessionRefusal::NoVolume)?;
     let at = Quantities::at(book, m);
     Ok(Indication {
         price: m * session.tick,
