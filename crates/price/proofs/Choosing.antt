@@ -81,8 +81,8 @@ pub record Settled (k : Schedule) (least p : ℕ) (a b : Quantities) : Type 0 wh
   pub between : Stays a b → size_of a ≡ 0 → (m : ℕ) → LowestSame k p m → Chosen k (mean m p)
   pub reached : Stays a b → least ≤ p
 
-pub settled : (os : List Order) (least most p : ℕ) → Crossed (schedule os most) least most → Crossing (schedule os most) p → least ≤ p + 1 → (a b : Quantities) → TradedAt (schedule os most) p a → TradedAt (schedule os most) (p + 1) b → Settled (schedule os most) least p a b
-settled os least most p c t from a b here next =
+pub settled : (os : List Order) (most : ℕ) {least p : ℕ} {a b : Quantities} → Crossed (schedule os most) least most → Crossing (schedule os most) p → least ≤ p + 1 → TradedAt (schedule os most) p a → TradedAt (schedule os most) (p + 1) b → Settled (schedule os most) least p a b
+settled os most {least} {p} {a} {b} c t from here next =
     let k = schedule os most in
     let d = decided k (monotone os most) p t in
     record {

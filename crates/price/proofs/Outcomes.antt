@@ -1,9 +1,9 @@
 -- What an indication and its refusal say, from the words of the rule alone. Assumes nothing.
-use Rattle.std.proofs.Common.{◌≡◌, ℕ, ◌*◌, ◌≤◌, min, ℤ, pos, ◌-ℤ◌, Some, None, Ok, Option, Result, sym, refl, ap, ◌∙◌, subst, arith}
+use Rattle.std.proofs.Common.{◌≡◌, ℕ, ◌*◌, ◌≤◌, Some, None, Option, Result, sym, refl, subst, arith}
 use Rattle.session.specs.declared.refusals.SessionRefusal.{SessionRefusal}
 use Rattle.session.specs.Openings.{ceiling}
 use Rattle.book.specs.Meaning.{Book}
-use Rattle.rules.specs.Schedule.{offered, volume, imbalance}
+use Rattle.rules.specs.Schedule.{offered}
 use Rattle.rules.specs.Literal.{equilibrium}
 use Rattle.rules.specs.Prices.{Answered}
 use Rattle.rules.proofs.Choices.{chosen_one, chosen_kept, equilibrium_words, unrivalled, no_rival, sign_change}
@@ -44,12 +44,3 @@ module _ (b : Book) (tick scarcity : ℕ) where
   -- a result that is the answer says what the words of the rule say of it
   pub by_answer : 1 ≤ tick → (r : Result Indication SessionRefusal) → r ≡ indication_answer b tick scarcity → Indicated b tick scarcity r
   by_answer some r e = subst (Indicated b tick scarcity) (sym e) (indicated some)
-
-  -- the answer from a price in ticks and the pair of quantities at it
-  pub answer_is : (m v bought sold : ℕ) (i : ℤ) → Some m ≡ equilibrium (offered b tick scarcity) → bought ≡ (offered b tick scarcity).bought m → sold ≡ (offered b tick scarcity).sold m → v ≡ min bought sold → i ≡ pos bought -ℤ pos sold → ◌≡◌ {A = Result Indication SessionRefusal} (Ok (record { price = m * tick; volume = v; imbalance = i })) (indication_answer b tick scarcity)
-  answer_is m v bought sold i e eb es ev ei =
-      let k = offered b tick scarcity in
-      let volumes : v ≡ volume k m = omega arith in
-      let sides : i ≡ imbalance k m = ei ∙ ap (λ x. pos x -ℤ pos sold) eb ∙ ap (λ x. pos (k.bought m) -ℤ pos x) es in
-      let heading : ◌≡◌ {A = Result Indication SessionRefusal} (Ok (record { price = m * tick; volume = v; imbalance = i })) (told tick k (Some m)) = ap (λ x. Ok (record { price = m * tick; volume = x; imbalance = i })) volumes ∙ ap (λ x. Ok (record { price = m * tick; volume = volume k m; imbalance = x })) sides in
-      heading ∙ ap (told tick k) e

@@ -12,6 +12,7 @@ pub(crate) fn lowest<F: Fn(u32) -> bool>(low: u32, high: u32, holds: F) -> u32
     ensures at { result < high → F.post holds result true }
     ensures before { low < result → F.post holds (result - 1) false }
 {
+    // By hand, since `partition_point` asks for a slice, and no slice holds all the numbers of a range.
     let mut from = low;
     let mut to = high;
     while from < to {

@@ -46,7 +46,7 @@ impl Quantities {
     }
 
     /// Whether the next price is preferred: for its volume, or at the same volume for an imbalance that is no larger.
-    // It stays written out: in an order of pairs the sizes would have to change places with the volumes.
+    // Written out as the rule says it: in an order of pairs the two sizes would have to change sides.
     pub(crate) fn goes_up(self, next: Quantities) -> bool
         ensures { MatchBool result (GoesUp self next) (Stays self next) }
     {

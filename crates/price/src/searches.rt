@@ -27,13 +27,12 @@ pub fn equilibrium_price<B: OrderBook>(book: &B, session: Session) -> Option<u32
 }
 
 /// The price, volume and imbalance that an uncrossing would have now, refused if nothing would trade.
+#[tactic(auto, using(crate::proofs::Outcomes::price_small))]
 pub fn indication<B: OrderBook>(book: &B, session: Session) -> Result<Indication, SessionRefusal>
     ensures answer { result ≡ indication_answer (B.meaning book.now) session.tick session.scarcity }
     ensures indicated { Indicated (B.meaning book.now) session.tick session.scarcity result }
 {
-    let Some(m) = equilibrium_price(book, session) else {
-        return Err(SessionRefusal::NoVolume);
-    };
+    let m = equilibrium_price(book, session).ok_or(SessionRefusal::NoVolume)?;
     let at = Quantities::at(book, m);
     Ok(Indication {
         price: m * session.tick,

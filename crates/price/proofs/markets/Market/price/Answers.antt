@@ -6,18 +6,18 @@ use Rattle.price.proofs.markets.Market.price.Goals as goal
 
 pub returns-then-goes_up : goal.returns-then-goes_up
 returns-then-goes_up g c =
-    (settled _ _ _ _ c.args.self.now.crossed c.crossing-p.ensures.crossing c.crossing-p.ensures.low _ _ c.traded_at-here.ensures c.traded_at-next.ensures).up c.if-goes_up.ensures
+    (settled _ _ c.args.self.now.crossed c.crossing-p.ensures.crossing c.crossing-p.ensures.low c.traded_at-here.ensures c.traded_at-next.ensures).up c.if-goes_up.ensures
 
 pub returns-then-size-gt-LEVEL : goal.returns-then-size-gt-LEVEL
 returns-then-size-gt-LEVEL g c =
-    (settled _ _ _ _ c.args.self.now.crossed c.crossing-p.ensures.crossing c.crossing-p.ensures.low _ _ c.traded_at-here.ensures c.traded_at-next.ensures).stays c.if-goes_up.ensures (omega (arith, c.if-size-gt-LEVEL.true, c.size.ensures))
+    (settled _ _ c.args.self.now.crossed c.crossing-p.ensures.crossing c.crossing-p.ensures.low c.traded_at-here.ensures c.traded_at-next.ensures).stays c.if-goes_up.ensures (omega (arith, c.if-size-gt-LEVEL.true, c.size.ensures))
 
 pub lowest_same-requires-clause-low : goal.lowest_same-requires-clause-low
 lowest_same-requires-clause-low g c =
-    (settled _ _ _ _ c.args.self.now.crossed c.crossing-p.ensures.crossing c.crossing-p.ensures.low _ _ c.traded_at-here.ensures c.traded_at-next.ensures).reached c.if-goes_up.ensures
+    (settled _ _ c.args.self.now.crossed c.crossing-p.ensures.crossing c.crossing-p.ensures.low c.traded_at-here.ensures c.traded_at-next.ensures).reached c.if-goes_up.ensures
 
 pub returns : goal.returns
 returns g c =
-    let s = settled _ _ _ _ c.args.self.now.crossed c.crossing-p.ensures.crossing c.crossing-p.ensures.low _ _ c.traded_at-here.ensures c.traded_at-next.ensures in
+    let s = settled _ _ c.args.self.now.crossed c.crossing-p.ensures.crossing c.crossing-p.ensures.low c.traded_at-here.ensures c.traded_at-next.ensures in
     let chosen = s.between c.if-goes_up.ensures (omega (arith, c.if-size-gt-LEVEL.false, c.size.ensures)) _ c.lowest_same.ensures in
     subst (Chosen (schedule (g.B.OrderBook.meaning c.args.self.now.book.now).orders c.args.self.now.most)) (sym c.middle.ensures) chosen
