@@ -1,5 +1,6 @@
 // What each line is answered.
 ghost use Rattle.std.specs.Prelude.{◌≡◌, ◌≤◌, List, [], length, vec_capacity};
+ghost use Rattle.std.specs.Slice.Iter.{iter_rest};
 ghost use Rattle.note.specs.declared.trades.Trade.{Trade};
 ghost use Rattle.trading.specs.Replies.{read as reply_read, read_all as replies_read};
 ghost use Rattle.feed.specs.Steps.{calls_of};
@@ -9,6 +10,7 @@ use crate::faults::Fault;
 use crate::places::{Placed, Places};
 use crate::steps::Step;
 use price::Indication;
+use std::slice;
 use trading::{Answer, Refusal};
 
 /// What an accepted line is answered.
@@ -50,18 +52,18 @@ fn answered(places: Places, answer: Result<Answer, Refusal>) -> Result<Done, Fau
 /// The answer to a line; a call takes the next of the answers.
 fn answer_line(
     step: Result<Step, Fault>,
-    answers: &[Result<Answer, Refusal>],
-    next: &mut usize,
+    answers: &mut slice::Iter<'_, Result<Answer, Refusal>>,
 ) -> Result<Done, Fault>
-    requires { Left step (length answers.now) next.old }
-    ensures { AnswersOne step answers.now next.old result next.new }
+    requires { Left step (iter_rest answers.old) }
+    ensures { AnswersOne step (iter_rest answers.old) result (iter_rest answers.new) }
 {
     match step? {
         Step::Opening => Ok(Done::Accepted),
         Step::Asking { places, .. } => {
-            let answer = answers[*next];
-            *next += 1;
-            answered(places, answer)
+            let Some(answer) = answers.next() else {
+                unreachable()
+            };
+            answered(places, *answer)
         }
     }
 }
@@ -77,9 +79,9 @@ pub(crate) fn answer_lines(
     requires room { length steps.now ≤ vec_capacity replies.old }
     ensures { (log : List Trade) → read_all log replies.new.items ≡ told_all steps.now (replies_read log answers.now) }
 {
-    let mut next = 0usize;
+    let mut left = answers.iter();
     for step in steps {
-        let reply = answer_line(*step, answers, &mut next);
+        let reply = answer_line(*step, &mut left);
         replies.push_reserved(reply);
     }
 }

@@ -36,18 +36,17 @@ pub(crate) fn read_script(heap: Global, feed: &[u8]) -> Result<Script, AllocErro
     let mut steps = Vec::new(heap);
     let mut calls = Vec::new(heap);
     let mut reader = LineReader::new(feed);
-    let mut number = 0usize;
-    let mut start = 0usize;
-    while let Some(read) = reader.next_line() {
-        number += 1;
-        let step = judge(&mut session, number, start, read);
+    loop {
+        let start = reader.position();
+        let Some(read) = reader.next_line() else {
+            return Ok(Script {
+                session,
+                steps,
+                calls,
+            });
+        };
+        let step = judge(&mut session, steps.len() + 1, start, read);
         add_call(&mut calls, step)?;
         steps.push(step)?;
-        start = reader.position();
     }
-    Ok(Script {
-        session,
-        steps,
-        calls,
-    })
 }

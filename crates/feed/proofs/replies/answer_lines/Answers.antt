@@ -3,7 +3,7 @@ use Rattle.feed.proofs.Telling.{tell_none, tell_more, answer_left, told_whole}
 use Rattle.feed.proofs.replies.answer_lines.Goals as goal
 
 pub loop-step-init : goal.loop-step-init
-loop-step-init c = (tell_none _ _ _ c.requires.asked c.requires.empty, omega (arith, ap length c.requires.empty, c.args.replies.now.ok), c.requires.room)
+loop-step-init c = (tell_none _ _ _ _ c.requires.asked c.requires.empty c.iter-left.ensures.rest, omega (arith, ap length c.requires.empty, c.args.replies.now.ok), c.requires.room)
 
 pub answer_line-reply-requires : goal.answer_line-reply-requires
 answer_line-reply-requires c = answer_left _ _ _ _ _ _ c.loop-step-test.true c.loop-step.invariant.0
