@@ -7,7 +7,7 @@ ghost use Rattle.feed.specs.Steps.{calls_of};
 ghost use Rattle.feed.specs.Replies.{done_of, told_of, told_all, read, read_all, Left, AnswersOne};
 
 use crate::faults::Fault;
-use crate::places::{Placed, Places};
+use crate::places::Places;
 use crate::steps::Step;
 use price::Indication;
 use std::slice;
@@ -46,7 +46,7 @@ fn done_for(answer: Answer) -> Done
 fn answered(places: Places, answer: Result<Answer, Refusal>) -> Result<Done, Fault>
     ensures { (log : List Trade) → read log result ≡ told_of places (reply_read log answer) }
 {
-    Ok(done_for(answer.at(places)?))
+    answer.map(done_for).map_err(|why| places.refused(why))
 }
 
 /// The answer to a line; a call takes the next of the answers.
