@@ -14,6 +14,7 @@ use session::{MAX_TICK, Session};
 use trading::{Call, Refusal};
 
 /// What an accepted line asks for.
+// No `Option` of a call with its places: an opening is a step of its own, and is answered, where `None` would say that a step lacks.
 #[derive(Clone, Copy)]
 pub(crate) enum Step {
     /// The session is open.
@@ -39,25 +40,32 @@ fn places_of(number: usize, start: usize, line: Line<'_>) -> Places
     requires { Legal (message line) }
     ensures { result ≡ places_of number start line.entry }
 {
-    let mut places = Places::new(number, start);
+    let places = Places::new(number, start);
     match line {
-        Line::Opening { tick, scarcity } => places.terms = terms_place(tick, scarcity),
+        Line::Opening { tick, scarcity } => Places {
+            terms: terms_place(tick, scarcity),
+            ..places
+        },
         Line::Entry {
             quantity,
             price,
             ..
-        } => {
-            places.quantity = quantity.place;
-            places.price = price.place;
-        }
-        Line::Cut { number, quantity } => {
-            places.number = number.place;
-            places.quantity = quantity.place;
-        }
-        Line::Withdrawal { number } => places.number = number.place,
-        Line::Uncrossing => {}
+        } => Places {
+            quantity: quantity.place,
+            price: price.place,
+            ..places
+        },
+        Line::Cut { number, quantity } => Places {
+            number: number.place,
+            quantity: quantity.place,
+            ..places
+        },
+        Line::Withdrawal { number } => Places {
+            number: number.place,
+            ..places
+        },
+        Line::Uncrossing => places,
     }
-    places
 }
 
 /// A session, whose refusal is kept as its cause.
