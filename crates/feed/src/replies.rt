@@ -50,6 +50,7 @@ fn answered(places: Places, answer: Result<Answer, Refusal>) -> Result<Done, Fau
 }
 
 /// The answer to a line; a call takes the next of the answers.
+#[tactic(auto, using(crate::proofs::Telling::one_opening))]
 fn answer_line(
     step: Result<Step, Fault>,
     answers: &mut slice::Iter<'_, Result<Answer, Refusal>>,
@@ -69,6 +70,7 @@ fn answer_line(
 }
 
 /// Answers each line.
+#[tactic(auto, using(crate::proofs::Telling::tell_none, crate::proofs::Telling::told_whole))]
 pub(crate) fn answer_lines(
     steps: &[Result<Step, Fault>],
     answers: &[Result<Answer, Refusal>],

@@ -29,6 +29,7 @@ fn add_call(calls: &mut Vec<Call>, step: Result<Step, Fault>) -> Result<(), Allo
 }
 
 /// Reads and judges every line of a feed.
+#[tactic(auto, using(crate::proofs::Scripting::in_feed, crate::proofs::Scripting::reading_next))]
 pub(crate) fn read_script(heap: Global, feed: &[u8]) -> Result<Script, AllocError>
     ensures { IfOk result (λ script. Scripted feed.now script.session script.steps.items script.calls.items) }
 {
