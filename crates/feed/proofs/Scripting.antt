@@ -21,10 +21,9 @@ pub record Reading (feed : List ℕ) (t : Option Terms) (steps : List (Result St
   pub steps_are : (rest : List Read) → all_judged None 1 (lines ++ rest) ≡ steps ++ all_judged t (n + 1) rest
   pub terms_are : (rest : List Read) → terms_after_all None (lines ++ rest) ≡ terms_after_all t rest
   pub calls_are : (ss : List (Result Step Fault)) → calls_of (steps ++ ss) ≡ calls ++ calls_of ss
-  pub few : n ≤ from
 
 pub reading_starts : (feed : List ℕ) → Reading feed None [] [] 0 0
-reading_starts feed = record { lines = []; reads = λ rest h. h; steps_are = λ rest. refl; terms_are = λ rest. refl; calls_are = λ ss. refl; few = omega arith }
+reading_starts feed = record { lines = []; reads = λ rest h. h; steps_are = λ rest. refl; terms_are = λ rest. refl; calls_are = λ ss. refl }
 
 call_first : (s : Result Step Fault) (cs : List Call) → with_call s cs ≡ with_call s [] ++ cs
 call_first (Ok Opening) cs = refl
@@ -32,10 +31,10 @@ call_first (Ok (Asking c p)) cs = refl
 call_first (Err fault) cs = refl
 
 module _ (feed : List ℕ) (t : Option Terms) (steps : List (Result Step Fault)) (calls : List Call) (n from : ℕ) (said : Result Line MalformedLine) where
-  pub reading_more : Answered feed from (Some said) (next_start feed from) → from < next_start feed from → Reading feed t steps calls n from
+  pub reading_more : Answered feed from (Some said) (next_start feed from) → Reading feed t steps calls n from
       → Reading feed (terms_after t said) (steps ++ judged t (n + 1) from said ∷ []) (calls ++ with_call (judged t (n + 1) from said) []) (n + 1) (next_start feed from)
   unfolding all_judged terms_after_all calls_of
-  reading_more answered onward h =
+  reading_more answered h =
       let s = judged t (n + 1) from said in
       let l : Read = record { start = from; said = said } in
       record {
@@ -44,7 +43,6 @@ module _ (feed : List ℕ) (t : Option Terms) (steps : List (Result Step Fault))
         steps_are = λ rest. ap (all_judged None 1) (append_snoc h.lines l rest) ∙ h.steps_are (l ∷ rest) ∙ sym (append_snoc steps s (all_judged (terms_after t said) (n + 1 + 1) rest));
         terms_are = λ rest. ap (terms_after_all None) (append_snoc h.lines l rest) ∙ h.terms_are (l ∷ rest);
         calls_are = λ ss. ap calls_of (append_snoc steps s ss) ∙ h.calls_are (s ∷ ss) ∙ ap (λ cs. calls ++ cs) (call_first s (calls_of ss)) ∙ sym (append_assoc calls (with_call s []) (calls_of ss));
-        few = omega (arith, h.few);
       }
 
 -- a line stands inside the feed
@@ -66,19 +64,20 @@ lawful feed from to (Ok line) h = h.legal
 lawful feed from to (Err fault) h = tt
 
 -- the same of a line as it was read by a reader, judged and kept
-module _ (feed bytes : List ℕ) (t t' : Option Terms) (steps steps' : List (Result Step Fault)) (calls calls' : List Call) (n from at to next : ℕ) (said : Result Line MalformedLine) (s : Result Step Fault) where
-  pub reading_next : bytes ≡ feed → at ≡ from → Answered bytes at (Some said) to → to ≡ next_start bytes at → at < to → next ≡ to
-      → s ≡ judged t (n + 1) from said → t' ≡ terms_after t said → steps' ≡ steps ++ s ∷ [] → calls' ≡ calls ++ with_call s []
-      → Reading feed t steps calls n from → Reading feed t' steps' calls' (n + 1) next
-  reading_next eb ea answered et onward en es eu ess ecs h =
-      let onto : to ≡ next_start feed from = et ∙ ap (λ b. next_start b at) eb ∙ ap (next_start feed) ea in
-      let there = subst (λ q. Answered feed from (Some said) q) onto (subst (λ p. Answered feed p (Some said) to) ea (subst (λ b. Answered b at (Some said) to) eb answered)) in
+module _ (feed bytes : List ℕ) (t t' : Option Terms) (steps steps' : List (Result Step Fault)) (calls calls' : List Call) (n n' kept from start to : ℕ) (said : Result Line MalformedLine) (s : Result Step Fault) where
+  pub reading_next : bytes ≡ feed → Answered bytes from (Some said) to → to ≡ next_start bytes from → kept ≡ n → start ≡ from
+      → s ≡ judged t (kept + 1) start said → t' ≡ terms_after t said → steps' ≡ steps ++ s ∷ [] → n' ≡ n + 1 → calls' ≡ calls ++ with_call s []
+      → Reading feed t steps calls n from → Reading feed t' steps' calls' n' to
+  reading_next eb answered et ek ea es eu ess en ecs h =
+      let onto : to ≡ next_start feed from = et ∙ ap (λ b. next_start b from) eb in
+      let there = subst (λ q. Answered feed from (Some said) q) onto (subst (λ b. Answered b from (Some said) to) eb answered) in
       let j = judged t (n + 1) from said in
-      let one = reading_more feed t steps calls n from said there (omega (arith, onward, ea, onto)) h in
+      let ej : s ≡ j = es ∙ ap (λ k. judged t (k + 1) start said) ek ∙ ap (λ p. judged t (n + 1) p said) ea in
+      let one = reading_more feed t steps calls n from said there h in
       let two = subst (λ u. Reading feed u (steps ++ j ∷ []) (calls ++ with_call j []) (n + 1) (next_start feed from)) (sym eu) one in
-      let three = subst (λ ss. Reading feed t' ss (calls ++ with_call j []) (n + 1) (next_start feed from)) (sym (ess ∙ ap (λ x. steps ++ x ∷ []) es)) two in
-      let four = subst (λ cs. Reading feed t' steps' cs (n + 1) (next_start feed from)) (sym (ecs ∙ ap (λ x. calls ++ with_call x []) es)) three in
-      subst (λ q. Reading feed t' steps' calls' (n + 1) q) (sym (en ∙ onto)) four
+      let three = subst (λ ss. Reading feed t' ss (calls ++ with_call j []) (n + 1) (next_start feed from)) (sym (ess ∙ ap (λ x. steps ++ x ∷ []) ej)) two in
+      let four = subst (λ cs. Reading feed t' steps' cs (n + 1) (next_start feed from)) (sym (ecs ∙ ap (λ x. calls ++ with_call x []) ej)) three in
+      subst (λ k. Reading feed t' steps' calls' k to) (sym en) (subst (λ q. Reading feed t' steps' calls' (n + 1) q) (sym onto) four)
 
 pub reading_ends : (feed : List ℕ) (session : Option Session) (steps : List (Result Step Fault)) (calls : List Call) (n from : ℕ) → from ≡ length feed → Reading feed (terms_of session) steps calls n from → Scripted feed session steps calls
 unfolding all_judged terms_after_all calls_of

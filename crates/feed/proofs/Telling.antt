@@ -22,31 +22,34 @@ read_all_snoc log [] a = refl
 read_all_snoc log (b ∷ answers) a = ap (λ rs. read log b ∷ rs) (read_all_snoc log answers a)
 
 -- the replies so far, and what the lines that are left are told, are what all lines are told; each call that is left has its answer
-pub record Telling (ss : List (Result Step Fault)) (answers : List (Result Answer Refusal)) (replies : List (Result Done Fault)) (i next : ℕ) : Type 0 where
-  pub told : (log : List Trade) → read_all log replies ++ told_all (drop i ss) (replies_read log (drop next answers)) ≡ told_all ss (replies_read log answers)
-  pub asked : next + length (calls_of (drop i ss)) ≡ length answers
+pub record Telling (ss : List (Result Step Fault)) (answers : List (Result Answer Refusal)) (replies : List (Result Done Fault)) (i : ℕ) (left : List (Result Answer Refusal)) : Type 0 where
+  pub told : (log : List Trade) → read_all log replies ++ told_all (drop i ss) (replies_read log left) ≡ told_all ss (replies_read log answers)
+  pub asked : length left ≡ length (calls_of (drop i ss))
 
-pub tell_none : (ss : List (Result Step Fault)) (answers : List (Result Answer Refusal)) (replies : List (Result Done Fault)) → length answers ≡ length (calls_of ss) → replies ≡ [] → Telling ss answers replies 0 0
+pub tell_none : (ss : List (Result Step Fault)) (answers : List (Result Answer Refusal)) (replies : List (Result Done Fault)) (left : List (Result Answer Refusal)) → length answers ≡ length (calls_of ss) → replies ≡ [] → left ≡ answers → Telling ss answers replies 0 left
 unfolding read_all
-tell_none ss answers replies e none = record { told = λ log. ap (λ rs. read_all log rs ++ told_all ss (replies_read log answers)) none; asked = omega (arith, e) }
+tell_none ss answers replies left e none whole = record {
+  told = λ log. ap (λ rs. read_all log rs ++ told_all ss (replies_read log left)) none ∙ ap (λ as'. told_all ss (replies_read log as')) whole;
+  asked = ap length whole ∙ e;
+}
 
 -- one line: an opening, a fault, or a call with its answer
 
-pub one_opening : (s : Result Step Fault) (answers : List (Result Answer Refusal)) (k : ℕ) → s ≡ Ok Opening → AnswersOne s answers k (Ok Accepted) k
+pub one_opening : (s : Result Step Fault) (answers : List (Result Answer Refusal)) → s ≡ Ok Opening → AnswersOne s answers (Ok Accepted) answers
 unfolding told_all
-one_opening s answers k e = subst (λ x. AnswersOne x answers k (Ok Accepted) k) (sym e) (record { head = λ log ss. refl; taken = omega arith })
+one_opening s answers e = subst (λ x. AnswersOne x answers (Ok Accepted) answers) (sym e) (record { head = λ log ss. refl; taken = omega arith })
 
-pub one_fault : (s : Result Step Fault) (fault : Fault) (answers : List (Result Answer Refusal)) (k : ℕ) → s ≡ Err fault → AnswersOne s answers k (Err fault) k
+pub one_fault : (s : Result Step Fault) (fault : Fault) (answers : List (Result Answer Refusal)) → s ≡ Err fault → AnswersOne s answers (Err fault) answers
 unfolding told_all
-one_fault s fault answers k e = subst (λ x. AnswersOne x answers k (Err fault) k) (sym e) (record { head = λ log ss. refl; taken = omega arith })
+one_fault s fault answers e = subst (λ x. AnswersOne x answers (Err fault) answers) (sym e) (record { head = λ log ss. refl; taken = omega arith })
 
-pub one_call : (s : Result Step Fault) (c : Call) (p : Places) (answers : List (Result Answer Refusal)) (k : ℕ) (d : Result Answer Refusal) (r : Result Done Fault) → s ≡ Ok (Asking c p) → k < length answers
-    → ((log : List Trade) → read log r ≡ told_of p (reply_read log (get_or answers k d))) → AnswersOne s answers k r (k + 1)
+pub one_call : (s : Result Step Fault) (c : Call) (p : Places) (answers : List (Result Answer Refusal)) (a : Result Answer Refusal) (left : List (Result Answer Refusal)) (r : Result Done Fault) → s ≡ Ok (Asking c p) → answers ≡ a ∷ left
+    → ((log : List Trade) → read log r ≡ told_of p (reply_read log a)) → AnswersOne s answers r left
 unfolding told_all replies_read
-one_call s c p answers k d r e lt reads = subst (λ x. AnswersOne x answers k r (k + 1)) (sym e) (record {
-  head = λ log ss. ap (λ ds. told_all (Ok (Asking c p) ∷ ss) (replies_read log ds)) (drop_more answers k d lt) ∙ ap (λ x. x ∷ told_all ss (replies_read log (drop (k + 1) answers))) (sym (reads log));
+one_call s c p answers a left r e first reads = subst (λ x. AnswersOne x answers r left) (sym e) (subst (λ as'. AnswersOne (Ok (Asking c p)) as' r left) (sym first) (record {
+  head = λ log ss. ap (λ x. x ∷ told_all ss (replies_read log left)) (sym (reads log));
   taken = omega arith;
-})
+}))
 
 counted : (s : Result Step Fault) (ss : List (Result Step Fault)) → length (calls_of (s ∷ ss)) ≡ length (with_call s []) + length (calls_of ss)
 unfolding calls_of
@@ -54,36 +57,36 @@ counted (Ok Opening) ss = omega arith
 counted (Ok (Asking c p)) ss = omega arith
 counted (Err fault) ss = omega arith
 
-module _ (ss : List (Result Step Fault)) (answers : List (Result Answer Refusal)) (replies : List (Result Done Fault)) (i k : ℕ) (d : Result Step Fault) where
+module _ (ss : List (Result Step Fault)) (answers : List (Result Answer Refusal)) (replies : List (Result Done Fault)) (i : ℕ) (left : List (Result Answer Refusal)) (d : Result Step Fault) where
   -- a call that is left has its answer
-  pub answer_left : i < length ss → Telling ss answers replies i k → Left (get_or ss i d) (length answers) k
+  pub answer_left : i < length ss → Telling ss answers replies i left → Left (get_or ss i d) left
   answer_left lt h =
       let rest = drop (i + 1) ss in
-      let e = subst (λ ds. k + length (calls_of ds) ≡ length answers) (drop_more ss i d lt) h.asked in
+      let e = subst (λ ds. length left ≡ length (calls_of ds)) (drop_more ss i d lt) h.asked in
       by_kind (get_or ss i d) (e, counted (get_or ss i d) rest)
     where
-      by_kind : (s : Result Step Fault) → (k + length (calls_of (s ∷ drop (i + 1) ss)) ≡ length answers) × (length (calls_of (s ∷ drop (i + 1) ss)) ≡ length (with_call s []) + length (calls_of (drop (i + 1) ss))) → Left s (length answers) k
+      by_kind : (s : Result Step Fault) → (length left ≡ length (calls_of (s ∷ drop (i + 1) ss))) × (length (calls_of (s ∷ drop (i + 1) ss)) ≡ length (with_call s []) + length (calls_of (drop (i + 1) ss))) → Left s left
       by_kind (Ok Opening) e = tt
       by_kind (Ok (Asking c p)) e = omega (arith, e.0, e.1)
       by_kind (Err fault) e = tt
 
-  pub tell_more : (replies' : List (Result Done Fault)) (r : Result Done Fault) (k' : ℕ) → i < length ss → AnswersOne (get_or ss i d) answers k r k' → replies' ≡ replies ++ r ∷ []
-      → Telling ss answers replies i k → Telling ss answers replies' (i + 1) k'
-  tell_more replies' r k' lt one e h =
+  pub tell_more : (replies' : List (Result Done Fault)) (r : Result Done Fault) (left' : List (Result Answer Refusal)) → i < length ss → AnswersOne (get_or ss i d) left r left' → replies' ≡ replies ++ r ∷ []
+      → Telling ss answers replies i left → Telling ss answers replies' (i + 1) left'
+  tell_more replies' r left' lt one e h =
       let s = get_or ss i d in
       let rest = drop (i + 1) ss in
-      let left = drop_more ss i d lt in
+      let onward = drop_more ss i d lt in
       record {
         told = λ log.
-            ap (λ rs. read_all log rs ++ told_all rest (replies_read log (drop k' answers))) e
-            ∙ ap (λ x. x ++ told_all rest (replies_read log (drop k' answers))) (read_all_snoc log replies r)
+            ap (λ rs. read_all log rs ++ told_all rest (replies_read log left')) e
+            ∙ ap (λ x. x ++ told_all rest (replies_read log left')) (read_all_snoc log replies r)
             ∙ append_snoc (read_all log replies) (read log r) _
             ∙ ap (λ x. read_all log replies ++ x) (sym (one.head log rest))
-            ∙ subst (λ ds. read_all log replies ++ told_all ds (replies_read log (drop k answers)) ≡ told_all ss (replies_read log answers)) left (h.told log);
-        asked = omega (arith, subst (λ ds. k + length (calls_of ds) ≡ length answers) left h.asked, counted s rest, one.taken);
+            ∙ subst (λ ds. read_all log replies ++ told_all ds (replies_read log left) ≡ told_all ss (replies_read log answers)) onward (h.told log);
+        asked = omega (arith, subst (λ ds. length left ≡ length (calls_of ds)) onward h.asked, counted s rest, one.taken);
       }
 
-module _ (ss : List (Result Step Fault)) (answers : List (Result Answer Refusal)) (replies : List (Result Done Fault)) (i k : ℕ) where
-  pub told_whole : length ss ≤ i → Telling ss answers replies i k → (log : List Trade) → read_all log replies ≡ told_all ss (replies_read log answers)
+module _ (ss : List (Result Step Fault)) (answers : List (Result Answer Refusal)) (replies : List (Result Done Fault)) (i : ℕ) (left : List (Result Answer Refusal)) where
+  pub told_whole : length ss ≤ i → Telling ss answers replies i left → (log : List Trade) → read_all log replies ≡ told_all ss (replies_read log answers)
   unfolding told_all
-  told_whole le h log = sym (append-nil _) ∙ ap (λ ds. read_all log replies ++ told_all ds (replies_read log (drop k answers))) (sym (drop_all i ss le)) ∙ h.told log
+  told_whole le h log = sym (append-nil _) ∙ ap (λ ds. read_all log replies ++ told_all ds (replies_read log left)) (sym (drop_all i ss le)) ∙ h.told log

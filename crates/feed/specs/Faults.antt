@@ -1,6 +1,8 @@
 -- The number and the layer of each cause. Assumes nothing.
 use Rattle.std.specs.Prelude.{ℕ, List, codes}
 use Rattle.trading.specs.declared.refusals.Refusal.TheVariants.{Book as OfBook, Session as OfSession}
+use Rattle.trading.specs.declared.refusals.Layer.{Layer as CallLayer}
+use Rattle.trading.specs.declared.refusals.Layer.TheVariants.{Book as Layer-as-Book, Session as Layer-as-Session}
 use Rattle.trading.specs.Refusals.{number_of as refusal_number}
 use Rattle.feed.specs.declared.faults.Cause.{Cause}
 use Rattle.feed.specs.declared.faults.Cause.TheVariants.{Malformed, OutOfTurn, Refused}
@@ -11,6 +13,11 @@ abbrev pub number_of : Cause → ℕ
 number_of Malformed = 1
 number_of OutOfTurn = 2
 number_of (Refused why) = refusal_number why
+
+-- the layer that refuses a call
+abbrev pub layer_at : CallLayer → Layer
+layer_at Layer-as-Session = Session
+layer_at Layer-as-Book = Book
 
 abbrev pub layer_of : Cause → Layer
 layer_of Malformed = Read

@@ -60,13 +60,13 @@ read_all log (a ∷ answers) = read log a ∷ read_all log answers
 
 -- What one line's answer promises the next; no caller needs it.
 
--- a call has its answer among n of which k are taken
-abbrev pub Left : Result Step Fault → ℕ → ℕ → Type 0
-Left (Ok Opening) n k = Unit {0}
-Left (Ok (Asking c p)) n k = k < n
-Left (Err fault) n k = Unit {0}
+-- a call has its answer among those that are left
+abbrev pub Left : Result Step Fault → List (Result Answer Refusal) → Type 0
+Left (Ok Opening) answers = Unit {0}
+Left (Ok (Asking c p)) answers = 0 < length answers
+Left (Err fault) answers = Unit {0}
 
--- from the answers behind the first k the line is answered r, which leaves those behind the first k'
-pub record AnswersOne (s : Result Step Fault) (answers : List (Result Answer Refusal)) (k : ℕ) (r : Result Done Fault) (k' : ℕ) : Type 0 where
-  pub head : (log : List Trade) (ss : List (Result Step Fault)) → told_all (s ∷ ss) (replies_read log (drop k answers)) ≡ read log r ∷ told_all ss (replies_read log (drop k' answers))
-  pub taken : k' ≡ k + length (with_call s [])
+-- from the answers the line is answered r, which leaves these for the next
+pub record AnswersOne (s : Result Step Fault) (answers : List (Result Answer Refusal)) (r : Result Done Fault) (left : List (Result Answer Refusal)) : Type 0 where
+  pub head : (log : List Trade) (ss : List (Result Step Fault)) → told_all (s ∷ ss) (replies_read log answers) ≡ read log r ∷ told_all ss (replies_read log left)
+  pub taken : length answers ≡ length (with_call s []) + length left

@@ -1,5 +1,5 @@
 -- What each line of a feed asks for, or why it is at fault. Assumes nothing.
-use Rattle.std.specs.Prelude.{◌≡◌, ℕ, ◌+◌, true, false, cond, ◌&&◌, List, [], ◌∷◌, length, Some, None, Ok, Err, Option, Result}
+use Rattle.std.specs.Prelude.{◌≡◌, ℕ, ◌+◌, Bool, true, false, cond, not, ◌&&◌, List, [], ◌∷◌, length, Some, None, Ok, Err, Option, Result}
 use Rattle.lines.specs.declared.fields.Field.{Field}
 use Rattle.lines.specs.declared.kinds.Line.{Line}
 use Rattle.lines.specs.declared.kinds.Line.TheVariants.{Opening as LineOpening, Entry as LineEntry, Cut as LineCut, Withdrawal as LineWithdrawal, Uncrossing as LineUncrossing}
@@ -100,6 +100,24 @@ line_judged t p (LineEntry side quantity price) = call_judged t p (Entry side (n
 line_judged t p (LineCut order quantity) = call_judged t p (Cut (number order) (number quantity))
 line_judged t p (LineWithdrawal order) = call_judged t p (Withdrawal (number order))
 line_judged t p LineUncrossing = call_judged t p Uncrossing
+
+-- whether a message comes in its turn: an opening before an accepted one, any other after it
+abbrev pub is_opening : Line → Bool
+is_opening (LineOpening tick scarcity) = true
+is_opening (LineEntry side quantity price) = false
+is_opening (LineCut order quantity) = false
+is_opening (LineWithdrawal order) = false
+is_opening LineUncrossing = false
+
+abbrev pub in_turn : Option Terms → Line → Bool
+in_turn None line = is_opening line
+in_turn (Some t) line = not (is_opening line)
+
+-- a line that comes in its turn asks for a call, or for none if it is an opening
+abbrev pub step_of : Places → Result (Option Call) Fault → Result Step Fault
+step_of p (Ok None) = Ok Opening
+step_of p (Ok (Some c)) = Ok (Asking c p)
+step_of p (Err fault) = Err fault
 
 -- the n-th line
 abbrev pub judged : Option Terms → ℕ → ℕ → Result Line MalformedLine → Result Step Fault

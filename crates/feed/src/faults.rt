@@ -1,6 +1,6 @@
 // Why a line is refused, and where.
 ghost use Rattle.std.specs.Prelude.{◌≡◌, Some};
-ghost use Rattle.feed.specs.Faults.{number_of, layer_of, layer_text};
+ghost use Rattle.feed.specs.Faults.{number_of, layer_at, layer_of, layer_text};
 
 use std::fmt;
 use trading::Refusal;
@@ -16,7 +16,8 @@ pub enum Cause {
     Refused(Refusal),
 }
 
-/// The layer that refuses.
+/// The layer that refuses: that of a refused call, or the reading before it.
+// Its cases stand side by side, not one around those of `trading`, so that each layer has one name.
 #[derive(Clone, Copy, Debug, PartialEq, Eq)]
 pub enum Layer {
     Read,
@@ -30,6 +31,18 @@ pub struct Fault {
     pub cause: Cause,
     pub line: usize,
     pub place: usize,
+}
+
+/// The layer that refuses a call.
+impl From<trading::Layer> for Layer {
+    ghost from_gives = { λ refusing layer. layer ≡ layer_at refusing };
+
+    fn from(refusing: trading::Layer) -> Layer {
+        match refusing {
+            trading::Layer::Session => Layer::Session,
+            trading::Layer::Book => Layer::Book,
+        }
+    }
 }
 
 /// The refusal's number.
@@ -52,8 +65,7 @@ impl Cause {
     {
         match self {
             Cause::Malformed | Cause::OutOfTurn => Layer::Read,
-            Cause::Refused(Refusal::Session(_)) => Layer::Session,
-            Cause::Refused(Refusal::Book(_)) => Layer::Book,
+            Cause::Refused(why) => Layer::from(why.layer()),
         }
     }
 }

@@ -1,12 +1,10 @@
 // Where the parts of a line stand, and which of them a refusal blames.
 ghost use Rattle.std.specs.Prelude.{◌≡◌};
-ghost use Rattle.feed.specs.declared.faults.Fault.{Fault};
 ghost use Rattle.feed.specs.declared.places.Places.{Places};
-ghost use Rattle.feed.specs.Places.{place_of, refused_at, malformed_at, out_of_turn, placed};
+ghost use Rattle.feed.specs.Places.{place_of, refused_at, out_of_turn};
 
 use crate::faults::{Cause, Fault};
 use book::BookRefusal;
-use lines::MalformedLine;
 use session::SessionRefusal;
 use trading::Refusal;
 
@@ -56,6 +54,17 @@ impl Places {
         }
     }
 
+    /// The fault of a line that is refused.
+    pub(crate) fn refused(self, why: Refusal) -> Fault
+        ensures { result ≡ refused_at why self }
+    {
+        Fault {
+            cause: Cause::Refused(why),
+            line: self.line,
+            place: self.place(why),
+        }
+    }
+
     /// The fault of a line that comes out of turn.
     pub(crate) fn out_of_turn(self) -> Fault
         ensures { result ≡ out_of_turn self }
@@ -64,54 +73,6 @@ impl Places {
             cause: Cause::OutOfTurn,
             line: self.line,
             place: self.start,
-        }
-    }
-}
-
-/// A refusal that a line can meet, and the fault that it is there.
-pub(crate) trait Blaming {
-    ghost blamed: { Self → Places → Fault };
-
-    fn fault(self, places: Places) -> Fault
-        ensures { result ≡ blamed self places };
-}
-
-impl Blaming for MalformedLine {
-    ghost blamed = { malformed_at };
-
-    fn fault(self, places: Places) -> Fault {
-        Fault {
-            cause: Cause::Malformed,
-            line: places.line,
-            place: self.place,
-        }
-    }
-}
-
-impl Blaming for Refusal {
-    ghost blamed = { refused_at };
-
-    fn fault(self, places: Places) -> Fault {
-        Fault {
-            cause: Cause::Refused(self),
-            line: places.line,
-            place: places.place(self),
-        }
-    }
-}
-
-/// A result that is asked for by a line.
-pub(crate) trait Placed<T> {
-    fn at(self, places: Places) -> Result<T, Fault>;
-}
-
-impl<T, F: Blaming> Placed<T> for Result<T, F> {
-    fn at(self, places: Places) -> Result<T, Fault>
-        ensures { result ≡ placed F.blamed self places }
-    {
-        match self {
-            Ok(value) => Ok(value),
-            Err(why) => Err(why.fault(places)),
         }
     }
 }

@@ -23,6 +23,7 @@ pub struct Played {
 }
 
 /// Carries out the calls in the session; without one, none.
+#[tactic(auto, using(crate::proofs::Playing::no_calls))]
 fn carry_out<B: OrderBook>(
     heap: Global,
     book: &mut B,

@@ -1,14 +1,16 @@
 // What each line is answered.
 ghost use Rattle.std.specs.Prelude.{◌≡◌, ◌≤◌, List, [], length, vec_capacity};
+ghost use Rattle.std.specs.Slice.Iter.{iter_rest};
 ghost use Rattle.note.specs.declared.trades.Trade.{Trade};
 ghost use Rattle.trading.specs.Replies.{read as reply_read, read_all as replies_read};
 ghost use Rattle.feed.specs.Steps.{calls_of};
 ghost use Rattle.feed.specs.Replies.{done_of, told_of, told_all, read, read_all, Left, AnswersOne};
 
 use crate::faults::Fault;
-use crate::places::{Placed, Places};
+use crate::places::Places;
 use crate::steps::Step;
 use price::Indication;
+use std::slice;
 use trading::{Answer, Refusal};
 
 /// What an accepted line is answered.
@@ -44,29 +46,31 @@ fn done_for(answer: Answer) -> Done
 fn answered(places: Places, answer: Result<Answer, Refusal>) -> Result<Done, Fault>
     ensures { (log : List Trade) → read log result ≡ told_of places (reply_read log answer) }
 {
-    Ok(done_for(answer.at(places)?))
+    answer.map(done_for).map_err(|why| places.refused(why))
 }
 
 /// The answer to a line; a call takes the next of the answers.
+#[tactic(auto, using(crate::proofs::Telling::one_opening))]
 fn answer_line(
     step: Result<Step, Fault>,
-    answers: &[Result<Answer, Refusal>],
-    next: &mut usize,
+    answers: &mut slice::Iter<'_, Result<Answer, Refusal>>,
 ) -> Result<Done, Fault>
-    requires { Left step (length answers.now) next.old }
-    ensures { AnswersOne step answers.now next.old result next.new }
+    requires { Left step (iter_rest answers.old) }
+    ensures { AnswersOne step (iter_rest answers.old) result (iter_rest answers.new) }
 {
     match step? {
         Step::Opening => Ok(Done::Accepted),
         Step::Asking { places, .. } => {
-            let answer = answers[*next];
-            *next += 1;
-            answered(places, answer)
+            let Some(answer) = answers.next() else {
+                unreachable()
+            };
+            answered(places, *answer)
         }
     }
 }
 
 /// Answers each line.
+#[tactic(auto, using(crate::proofs::Telling::tell_none, crate::proofs::Telling::told_whole))]
 pub(crate) fn answer_lines(
     steps: &[Result<Step, Fault>],
     answers: &[Result<Answer, Refusal>],
@@ -77,9 +81,9 @@ pub(crate) fn answer_lines(
     requires room { length steps.now ≤ vec_capacity replies.old }
     ensures { (log : List Trade) → read_all log replies.new.items ≡ told_all steps.now (replies_read log answers.now) }
 {
-    let mut next = 0usize;
+    let mut left = answers.iter();
     for step in steps {
-        let reply = answer_line(*step, answers, &mut next);
+        let reply = answer_line(*step, &mut left);
         replies.push_reserved(reply);
     }
 }

@@ -29,6 +29,7 @@ fn add_call(calls: &mut Vec<Call>, step: Result<Step, Fault>) -> Result<(), Allo
 }
 
 /// Reads and judges every line of a feed.
+#[tactic(auto, using(crate::proofs::Scripting::in_feed, crate::proofs::Scripting::reading_next))]
 pub(crate) fn read_script(heap: Global, feed: &[u8]) -> Result<Script, AllocError>
     ensures { IfOk result (λ script. Scripted feed.now script.session script.steps.items script.calls.items) }
 {
@@ -36,18 +37,17 @@ pub(crate) fn read_script(heap: Global, feed: &[u8]) -> Result<Script, AllocErro
     let mut steps = Vec::new(heap);
     let mut calls = Vec::new(heap);
     let mut reader = LineReader::new(feed);
-    let mut number = 0usize;
-    let mut start = 0usize;
-    while let Some(read) = reader.next_line() {
-        number += 1;
-        let step = judge(&mut session, number, start, read);
+    loop {
+        let start = reader.position();
+        let Some(read) = reader.next_line() else {
+            return Ok(Script {
+                session,
+                steps,
+                calls,
+            });
+        };
+        let step = judge(&mut session, steps.len() + 1, start, read);
         add_call(&mut calls, step)?;
         steps.push(step)?;
-        start = reader.position();
     }
-    Ok(Script {
-        session,
-        steps,
-        calls,
-    })
 }

@@ -3,15 +3,18 @@ ghost use Rattle.std.specs.Prelude.{◌≡◌, true};
 ghost use Rattle.lines.specs.Digits.{is_number};
 ghost use Rattle.lines.specs.Forms.{Legal};
 ghost use Rattle.lines.specs.Reading.{message, digits};
-ghost use Rattle.feed.specs.Steps.{terms_of, judged, line_judged, opening_judged, call_judged, opened, line_opened, terms_after, places_of, terms_place, Lawful, Opens};
+ghost use Rattle.feed.specs.declared.places.Places.{Places};
+ghost use Rattle.feed.specs.Places.{placed, refused_at};
+ghost use Rattle.feed.specs.Steps.{terms_of, judged, in_turn, step_of, line_judged, line_opened, terms_after, places_of, terms_place, Lawful, Opens};
 
-use crate::faults::Fault;
-use crate::places::{Placed, Places};
+use crate::faults::{Cause, Fault};
+use crate::places::Places;
 use lines::{Field, Line, MalformedLine};
 use session::{MAX_TICK, Session};
 use trading::{Call, Refusal};
 
 /// What an accepted line asks for.
+// No `Option` of a call with its places: an opening is a step of its own, and is answered, where `None` would say that a step lacks.
 #[derive(Clone, Copy)]
 pub(crate) enum Step {
     /// The session is open.
@@ -25,11 +28,44 @@ fn terms_place(tick: Field<'_>, scarcity: Field<'_>) -> usize
     requires { is_number (digits tick) ≡ true }
     ensures { result ≡ terms_place tick.entry scarcity.entry }
 {
-    let ticks = tick.value();
-    if ticks == 0 || ticks > MAX_TICK {
-        return tick.place;
+    if (1..=MAX_TICK).contains(&tick.value()) {
+        scarcity.place
+    } else {
+        tick.place
     }
-    scarcity.place
+}
+
+/// Where the parts of a line stand.
+fn places_of(number: usize, start: usize, line: Line<'_>) -> Places
+    requires { Legal (message line) }
+    ensures { result ≡ places_of number start line.entry }
+{
+    let places = Places::new(number, start);
+    match line {
+        Line::Opening { tick, scarcity } => Places {
+            terms: terms_place(tick, scarcity),
+            ..places
+        },
+        Line::Entry {
+            quantity,
+            price,
+            ..
+        } => Places {
+            quantity: quantity.place,
+            price: price.place,
+            ..places
+        },
+        Line::Cut { number, quantity } => Places {
+            number: number.place,
+            quantity: quantity.place,
+            ..places
+        },
+        Line::Withdrawal { number } => Places {
+            number: number.place,
+            ..places
+        },
+        Line::Uncrossing => places,
+    }
 }
 
 /// A session, whose refusal is kept as its cause.
@@ -39,69 +75,24 @@ fn open(tick: u32, scarcity: u32) -> Result<Session, Refusal>
     Ok(Session::open(tick, scarcity)?)
 }
 
-/// An opening, which is out of turn after an accepted one.
-fn opening(
-    session: &mut Option<Session>,
-    places: Places,
-    tick: u32,
-    scarcity: u32,
-) -> Result<Step, Fault>
-    ensures answer { result ≡ opening_judged (terms_of session.old) places tick scarcity }
-    ensures session { terms_of session.new ≡ opened (terms_of session.old) tick scarcity }
+/// Whether a line comes in its turn: an opening before an accepted one, any other message after it.
+fn in_turn(session: Option<Session>, line: Line<'_>) -> bool
+    ensures { result ≡ in_turn (terms_of session) line.entry }
 {
-    if session.is_some() {
-        return Err(places.out_of_turn());
-    }
-    let opened = open(tick, scarcity).at(places)?;
-    *session = Some(opened);
-    Ok(Step::Opening)
+    session.is_none() == matches!(line, Line::Opening { .. })
 }
 
-/// A call, which is out of turn before an accepted opening.
-fn asking(session: Option<Session>, places: Places, call: Call) -> Result<Step, Fault>
-    ensures { result ≡ call_judged (terms_of session) places call }
-{
-    if session.is_none() {
-        return Err(places.out_of_turn());
-    }
-    Ok(Step::Asking { call, places })
-}
-
-/// Where the parts of a line stand.
-fn places_of(number: usize, start: usize, line: Line<'_>) -> Places
-    requires { Legal (message line) }
-    ensures { result ≡ places_of number start line.entry }
-{
-    let mut places = Places::new(number, start);
-    match line {
-        Line::Opening { tick, scarcity } => places.terms = terms_place(tick, scarcity),
-        Line::Entry {
-            quantity,
-            price,
-            ..
-        } => {
-            places.quantity = quantity.place;
-            places.price = price.place;
-        }
-        Line::Cut { number, quantity } => {
-            places.number = number.place;
-            places.quantity = quantity.place;
-        }
-        Line::Withdrawal { number } => places.number = number.place,
-        Line::Uncrossing => {}
-    }
-    places
-}
-
-/// What a line asks for in the session that is open, if one is.
-fn ask(session: &mut Option<Session>, places: Places, line: Line<'_>) -> Result<Step, Fault>
-    requires { Legal (message line) }
-    ensures answer { result ≡ line_judged (terms_of session.old) places line.entry }
+/// The call that a line asks for in its turn; an opening opens the session, and asks for none.
+fn ask(session: &mut Option<Session>, line: Line<'_>) -> Result<Option<Call>, Refusal>
+    requires turn { in_turn (terms_of session.old) line ≡ true }
+    requires lawful { Legal (message line) }
+    ensures answer { (p : Places) → step_of p (placed refused_at result p) ≡ line_judged (terms_of session.old) p line.entry }
     ensures session { terms_of session.new ≡ line_opened (terms_of session.old) line.entry }
 {
     let call = match line {
         Line::Opening { tick, scarcity } => {
-            return opening(session, places, tick.value(), scarcity.value());
+            *session = Some(open(tick.value(), scarcity.value())?);
+            return Ok(None);
         }
         Line::Entry {
             side,
@@ -121,7 +112,7 @@ fn ask(session: &mut Option<Session>, places: Places, line: Line<'_>) -> Result<
         },
         Line::Uncrossing => Call::Uncrossing,
     };
-    asking(*session, places, call)
+    Ok(Some(call))
 }
 
 /// What the line that begins at `start` asks for in the session that is open, if one is.
@@ -135,6 +126,15 @@ pub(crate) fn judge(
     ensures answer { result ≡ judged (terms_of session.old) number start read.entry }
     ensures session { terms_of session.new ≡ terms_after (terms_of session.old) read.entry }
 {
-    let line = read.at(Places::new(number, start))?;
-    ask(session, places_of(number, start, line), line)
+    let line = read.map_err(|malformed| Fault {
+        cause: Cause::Malformed,
+        line: number,
+        place: malformed.place,
+    })?;
+    let places = places_of(number, start, line);
+    if !in_turn(*session, line) {
+        return Err(places.out_of_turn());
+    }
+    let call = ask(session, line).map_err(|why| places.refused(why))?;
+    Ok(call.map_or(Step::Opening, |call| Step::Asking { call, places }))
 }

@@ -1,9 +1,6 @@
-use Rattle.std.proofs.Common.{length, ap, arith}
-use Rattle.feed.proofs.Telling.{tell_none, tell_more, answer_left, told_whole}
+use Rattle.std.proofs.Common.{arith}
+use Rattle.feed.proofs.Telling.{tell_more, answer_left}
 use Rattle.feed.proofs.replies.answer_lines.Goals as goal
-
-pub loop-step-init : goal.loop-step-init
-loop-step-init c = (tell_none _ _ _ c.requires.asked c.requires.empty, omega (arith, ap length c.requires.empty, c.args.replies.now.ok), c.requires.room)
 
 pub answer_line-reply-requires : goal.answer_line-reply-requires
 answer_line-reply-requires c = answer_left _ _ _ _ _ _ c.loop-step-test.true c.loop-step.invariant.0
@@ -14,6 +11,3 @@ loop-step-preserved c = (
   omega (arith, c.push_reserved.ensures.len, c.loop-step.invariant.1),
   omega (arith, c.push_reserved.ensures.capacity, c.loop-step.invariant.2),
 )
-
-pub returns : goal.returns
-returns c = told_whole _ _ _ _ _ c.loop-step-test.false c.loop-step.invariant.0
