@@ -1,7 +1,7 @@
 // Generated lists of calls, on both makes and on the calculator.
 use crate::tallies::Tally;
 use book::{OrderBook, Side};
-use calculator::{PlainBook, PlainReply, Source};
+use calculator::{PlainBook, PlainRefusal, PlainReply, Source};
 use engine::{Journal, run};
 use ladder::Ladder;
 use note::Trade;
@@ -22,7 +22,7 @@ const UNWRITTEN: Trade = Trade {
 /// What the calculator says of a list.
 #[derive(Drop)]
 struct Expected {
-    replies: Vec<PlainReply>,
+    replies: Vec<Result<PlainReply, PlainRefusal>>,
     /// The trades of all uncrossings, and how many each reply has.
     log: Vec<Trade>,
     counts: Vec<usize>,
@@ -88,7 +88,7 @@ fn ask(
     book: &mut PlainBook,
     call: Call,
     places: usize,
-) -> Result<PlainReply, AllocError> {
+) -> Result<Result<PlainReply, PlainRefusal>, AllocError> {
     match call {
         Call::Entry {
             side,
@@ -103,9 +103,12 @@ fn ask(
 }
 
 /// Adds what the calculator answered.
-fn note(expected: &mut Expected, reply: PlainReply) -> Result<(), AllocError> {
+fn note(
+    expected: &mut Expected,
+    reply: Result<PlainReply, PlainRefusal>,
+) -> Result<(), AllocError> {
     let mut count = 0usize;
-    if let PlainReply::Uncrossed(_) = reply {
+    if let Ok(PlainReply::Uncrossed(_)) = reply {
         count = expected.book.trades.len();
         write_over(&mut expected.register, &expected.book.trades);
         for trade in expected.book.trades.iter() {
@@ -139,16 +142,21 @@ fn expect(
 }
 
 /// Whether an answer is the calculator's, with its trades at a place of the log.
-fn agrees(answer: Answer, reply: PlainReply, at: usize, trades: usize) -> bool {
+fn agrees(
+    answer: Answer,
+    reply: Result<PlainReply, PlainRefusal>,
+    at: usize,
+    trades: usize,
+) -> bool {
     match (answer, reply) {
-        (Answer::Entered(given), PlainReply::Entered(wanted)) => given == wanted,
-        (Answer::Cut, PlainReply::Cut) => true,
-        (Answer::Withdrawn, PlainReply::Withdrawn) => true,
-        (Answer::Indicated(given), PlainReply::Indicated(wanted)) => given == wanted,
-        (Answer::Uncrossed { told, first, count }, PlainReply::Uncrossed(wanted)) => {
+        (Answer::Entered(given), Ok(PlainReply::Entered(wanted))) => given == wanted,
+        (Answer::Cut, Ok(PlainReply::Cut)) => true,
+        (Answer::Withdrawn, Ok(PlainReply::Withdrawn)) => true,
+        (Answer::Indicated(given), Ok(PlainReply::Indicated(wanted))) => given == wanted,
+        (Answer::Uncrossed { told, first, count }, Ok(PlainReply::Uncrossed(wanted))) => {
             told == wanted && first == at && count == trades
         }
-        (Answer::Refused(why), PlainReply::Refused(number)) => why.code() == number,
+        (Answer::Refused(why), Err(wanted)) => why.code() == u8::from(wanted),
         _ => false,
     }
 }

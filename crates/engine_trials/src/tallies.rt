@@ -1,5 +1,5 @@
 // What the calls of the generated lists came to.
-use calculator::PlainReply;
+use calculator::{PlainRefusal, PlainReply};
 
 /// Counts by kind of answer, and lists on which a make and the calculator differ.
 #[derive(Clone, Copy)]
@@ -31,15 +31,15 @@ impl Tally {
         }
     }
 
-    pub(crate) fn count(&mut self, reply: PlainReply) {
+    pub(crate) fn count(&mut self, reply: Result<PlainReply, PlainRefusal>) {
         match reply {
-            PlainReply::Entered(_) => self.entered = self.entered.saturating_add(1),
-            PlainReply::Cut => self.cut = self.cut.saturating_add(1),
-            PlainReply::Withdrawn => self.withdrawn = self.withdrawn.saturating_add(1),
-            PlainReply::Indicated(_) => self.indicated = self.indicated.saturating_add(1),
-            PlainReply::Uncrossed(_) => self.uncrossed = self.uncrossed.saturating_add(1),
-            PlainReply::Refused(number) => {
-                let i = (number & 15) as usize;
+            Ok(PlainReply::Entered(_)) => self.entered = self.entered.saturating_add(1),
+            Ok(PlainReply::Cut) => self.cut = self.cut.saturating_add(1),
+            Ok(PlainReply::Withdrawn) => self.withdrawn = self.withdrawn.saturating_add(1),
+            Ok(PlainReply::Indicated(_)) => self.indicated = self.indicated.saturating_add(1),
+            Ok(PlainReply::Uncrossed(_)) => self.uncrossed = self.uncrossed.saturating_add(1),
+            Err(why) => {
+                let i = (u8::from(why) & 15) as usize;
                 self.refused[i] = self.refused[i].saturating_add(1);
             }
         }
