@@ -73,7 +73,7 @@ impl PlainBook {
             return Err(PlainRefusal::PriceRange);
         }
         let tick = self.tick.max(1);
-        if price % tick != 0 {
+        if !price.is_multiple_of(tick) {
             return Err(PlainRefusal::OffTick);
         }
         if self.live() >= self.places {

@@ -67,9 +67,7 @@ fn try_book(heap: Global, source: &mut Source) -> Result<Outcome, AllocError> {
 /// So many generated books.
 pub(crate) fn try_books(heap: Global, seed: u64, books: u32) -> Result<Vec<Outcome>, AllocError> {
     let mut source = Source::new(seed);
-    let mut outcomes = Vec::new(heap);
-    for _ in 0..books {
-        outcomes.push(try_book(heap, &mut source)?)?;
-    }
-    Ok(outcomes)
+    (0..books)
+        .map(|_| try_book(heap, &mut source))
+        .try_collect(heap)
 }
