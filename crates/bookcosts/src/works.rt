@@ -38,6 +38,7 @@ fn work<B: OrderBook, F: Fn(&mut B, u32) -> u32>(book: &mut B, orders: u32, step
     requires { F.IsAlwaysCallable step }
 {
     fill(book, orders);
+    // A `for` and no chain, since each step changes the book.
     let mut sum = 0u32;
     for i in 0..TIMES {
         sum = sum.wrapping_add(step(book, i));

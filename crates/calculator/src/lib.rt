@@ -5,9 +5,12 @@
 mod books;
 mod plain;
 mod prices;
+mod refusals;
 mod sources;
+mod trades;
 
 pub use books::{PlainBook, PlainReply};
-pub use plain::{PlainOrder, buy, fill, sell};
+pub use plain::{PlainOrder, fill, order};
 pub use prices::{Ending, calculate};
+pub use refusals::PlainRefusal;
 pub use sources::Source;

@@ -4,139 +4,146 @@ use book::Side;
 use price::Indication;
 
 /// What the imbalances of the kept prices are.
-#[derive(Clone, Copy)]
+#[derive(Clone, Copy, Debug, PartialEq, Eq)]
 pub enum Ending {
-    Nothing,
     Positive,
     Negative,
     Mixed,
     Level,
 }
 
-/// The kept prices that the tie rule asks for, in ticks; 0 where there is none.
+/// What is bought and what is sold at a price.
 #[derive(Clone, Copy)]
-struct Kept {
-    lowest: u32,
-    highest: u32,
-    highest_positive: u32,
-    lowest_negative: u32,
+struct Offered {
+    bought: u32,
+    sold: u32,
 }
 
-fn bought(orders: &[PlainOrder], m: u32) -> u32 {
-    let mut sum = 0u32;
-    for order in orders {
-        if order.side == Side::Buy && order.limit >= m {
-            sum = sum.saturating_add(order.quantity);
+impl Offered {
+    fn volume(self) -> u32 {
+        self.bought.min(self.sold)
+    }
+
+    /// The imbalance without its sign.
+    fn size(self) -> u32 {
+        self.bought.abs_diff(self.sold)
+    }
+
+    fn imbalance(self) -> i64 {
+        i64::from(self.bought) - i64::from(self.sold)
+    }
+}
+
+impl PlainOrder {
+    /// Whether the order trades at `m` ticks.
+    fn trades_at(&self, m: u32) -> bool {
+        match self.side {
+            Side::Buy => m <= self.limit,
+            Side::Sell => self.limit <= m,
         }
     }
-    sum
 }
 
-fn sold(orders: &[PlainOrder], m: u32) -> u32 {
-    let mut sum = 0u32;
-    for order in orders {
-        if order.side == Side::Sell && order.limit <= m {
-            sum = sum.saturating_add(order.quantity);
-        }
-    }
-    sum
+/// The contracts of a side's orders that trade at `m` ticks.
+fn quantity_of(orders: &[PlainOrder], side: Side, m: u32) -> u32 {
+    orders
+        .iter()
+        .filter(|order| order.side == side && order.trades_at(m))
+        .map(|order| order.quantity)
+        .fold(0, u32::saturating_add)
 }
 
-fn volume(orders: &[PlainOrder], m: u32) -> u32 {
-    bought(orders, m).min(sold(orders, m))
+fn offered_at(orders: &[PlainOrder], m: u32) -> Offered {
+    Offered {
+        bought: quantity_of(orders, Side::Buy, m),
+        sold: quantity_of(orders, Side::Sell, m),
+    }
 }
 
-fn size(orders: &[PlainOrder], m: u32) -> u32 {
-    bought(orders, m).abs_diff(sold(orders, m))
+/// The prices from 1 to `top`, in ticks, of the largest volume and then of the smallest imbalance.
+#[derive(Clone, Copy)]
+struct Kept<'a> {
+    orders: &'a [PlainOrder],
+    top: u32,
+    volume: u32,
+    size: u32,
 }
 
-/// The largest volume of the prices from 1 to `top`.
-fn largest_volume(orders: &[PlainOrder], top: u32) -> u32 {
-    let mut largest = 0u32;
-    for m in 1..=top {
-        largest = largest.max(volume(orders, m));
+impl<'a> Kept<'a> {
+    /// The kept prices; `None` if nothing trades at any price.
+    fn of(orders: &'a [PlainOrder], top: u32) -> Option<Kept<'a>> {
+        let volume = (1..=top)
+            .map(|m| offered_at(orders, m).volume())
+            .filter(|volume| *volume > 0)
+            .max()?;
+        let size = (1..=top)
+            .map(|m| offered_at(orders, m))
+            .filter(|at| at.volume() == volume)
+            .map(|at| at.size())
+            .min()?;
+        Some(Kept {
+            orders,
+            top,
+            volume,
+            size,
+        })
     }
-    largest
-}
 
-/// The smallest imbalance of the prices of the largest volume.
-fn smallest_size(orders: &[PlainOrder], top: u32, largest: u32) -> u32 {
-    let mut smallest = u32::MAX;
-    for m in 1..=top {
-        if volume(orders, m) == largest {
-            smallest = smallest.min(size(orders, m));
-        }
+    /// What is bought and sold at a price, if that is kept.
+    fn at(&self, m: u32) -> Option<Offered> {
+        let at = offered_at(self.orders, m);
+        Some(at).filter(|at| at.volume() == self.volume && at.size() == self.size)
     }
-    smallest
-}
 
-/// The kept prices with one more.
-fn also(kept: Kept, m: u32, bought: u32, sold: u32) -> Kept {
-    let mut more = kept;
-    if kept.lowest == 0 {
-        more.lowest = m;
+    fn lowest(&self) -> Option<u32> {
+        (1..=self.top).find(|m| self.at(*m).is_some())
     }
-    more.highest = m;
-    if bought > sold {
-        more.highest_positive = m;
-    }
-    if bought < sold && kept.lowest_negative == 0 {
-        more.lowest_negative = m;
-    }
-    more
-}
 
-fn kept_prices(orders: &[PlainOrder], top: u32, largest: u32, smallest: u32) -> Kept {
-    let mut kept = Kept {
-        lowest: 0,
-        highest: 0,
-        highest_positive: 0,
-        lowest_negative: 0,
-    };
-    for m in 1..=top {
-        if volume(orders, m) == largest && size(orders, m) == smallest {
-            kept = also(kept, m, bought(orders, m), sold(orders, m));
-        }
+    fn highest(&self) -> Option<u32> {
+        (1..=self.top).rev().find(|m| self.at(*m).is_some())
     }
-    kept
+
+    fn lowest_negative(&self) -> Option<u32> {
+        (1..=self.top).find(|m| self.at(*m).is_some_and(|at| at.bought < at.sold))
+    }
+
+    fn highest_positive(&self) -> Option<u32> {
+        (1..=self.top)
+            .rev()
+            .find(|m| self.at(*m).is_some_and(|at| at.bought > at.sold))
+    }
+
+    /// The price that the tie rule picks.
+    fn tie(&self) -> Option<(Ending, u32)> {
+        let tied = match (self.highest_positive(), self.lowest_negative()) {
+            (None, None) => (Ending::Level, nearest(self.lowest()?, self.highest()?)?),
+            (None, Some(lowest)) => (Ending::Negative, lowest),
+            (Some(highest), None) => (Ending::Positive, highest),
+            (Some(highest), Some(lowest)) => (Ending::Mixed, nearest(highest, lowest)?),
+        };
+        Some(tied)
+    }
 }
 
 /// The price from `low` to `high` that is nearest to the middle of both, the higher of two that are equally near.
-fn nearest(low: u32, high: u32) -> u32 {
+fn nearest(low: u32, high: u32) -> Option<u32> {
     let twice = u64::from(low) + u64::from(high);
-    let mut found = low;
-    for m in low..high.saturating_add(1) {
-        if u64::from(m).saturating_mul(2).abs_diff(twice)
-            <= u64::from(found).saturating_mul(2).abs_diff(twice)
-        {
-            found = m;
-        }
-    }
-    found
+    // Of equal keys the first is picked, and so the higher price.
+    (low..=high)
+        .rev()
+        .min_by_key(|m| (2 * u64::from(*m)).abs_diff(twice))
 }
 
-fn tie(kept: Kept) -> (Ending, u32) {
-    match (kept.highest_positive, kept.lowest_negative) {
-        (0, 0) => (Ending::Level, nearest(kept.lowest, kept.highest)),
-        (0, lowest) => (Ending::Negative, lowest),
-        (highest, 0) => (Ending::Positive, highest),
-        (highest, lowest) => (Ending::Mixed, nearest(highest, lowest)),
-    }
-}
-
-/// The ending and, unless nothing trades, the indication.
-pub fn calculate(orders: &[PlainOrder], tick: u32, scarcity: u32) -> (Ending, Option<Indication>) {
-    let top = scarcity / tick.max(1);
-    let largest = largest_volume(orders, top);
-    if largest == 0 {
-        return (Ending::Nothing, None);
-    }
-    let smallest = smallest_size(orders, top, largest);
-    let (ending, m) = tie(kept_prices(orders, top, largest, smallest));
+/// The ending and the indication; `None` if nothing trades.
+// The tick and the scarcity price are numbers here and no session: those of a session have ranges, and these may be any.
+pub fn calculate(orders: &[PlainOrder], tick: u32, scarcity: u32) -> Option<(Ending, Indication)> {
+    let kept = Kept::of(orders, scarcity / tick.max(1))?;
+    let (ending, m) = kept.tie()?;
+    let at = offered_at(orders, m);
     let told = Indication {
         price: m.saturating_mul(tick),
-        volume: volume(orders, m),
-        imbalance: i64::from(bought(orders, m)) - i64::from(sold(orders, m)),
+        volume: at.volume(),
+        imbalance: at.imbalance(),
     };
-    (ending, Some(told))
+    Some((ending, told))
 }

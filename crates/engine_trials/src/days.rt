@@ -1,5 +1,6 @@
 // Days that were worked out by hand, on both makes.
 use crate::shown::show;
+use book::Side::{Buy, Sell};
 use book::{OrderBook, Side};
 use engine::run;
 use ladder::Ladder;
@@ -14,17 +15,9 @@ const BLANK: Trade = Trade {
     quantity: 0,
 };
 
-fn buy(quantity: u32, price: u32) -> Call {
+fn entry(side: Side, quantity: u32, price: u32) -> Call {
     Call::Entry {
-        side: Side::Buy,
-        quantity,
-        price,
-    }
-}
-
-fn sell(quantity: u32, price: u32) -> Call {
-    Call::Entry {
-        side: Side::Sell,
+        side,
         quantity,
         price,
     }
@@ -71,9 +64,9 @@ fn show_second<B: OrderBook>(rt: &HostRuntime, book: &B) -> anyhow::Result<()> {
 /// Two buys and a sell at one price; the clearing note of their trades.
 pub(crate) fn run_listing(rt: &HostRuntime) -> anyhow::Result<()> {
     let calls = [
-        buy(6, 10_000),
-        buy(6, 10_000),
-        sell(8, 10_000),
+        entry(Buy, 6, 10_000),
+        entry(Buy, 6, 10_000),
+        entry(Sell, 8, 10_000),
         Call::Uncrossing,
         Call::Withdrawal { number: 9 },
     ];
@@ -94,18 +87,18 @@ pub(crate) fn run_listing(rt: &HostRuntime) -> anyhow::Result<()> {
 /// A register of one place for two trades, an uncrossing twice, and orders above the ceiling.
 pub(crate) fn run_registers(rt: &HostRuntime) -> anyhow::Result<()> {
     let calls = [
-        buy(6, 10_000),
-        buy(6, 10_000),
-        sell(8, 10_000),
+        entry(Buy, 6, 10_000),
+        entry(Buy, 6, 10_000),
+        entry(Sell, 8, 10_000),
         Call::Uncrossing,
         Call::Indication,
     ];
     play_both(rt, 30_000, &calls, &mut [BLANK; 1])?;
     let twice = [
-        buy(5, 10_000),
-        buy(2, 40_000),
-        sell(4, 9_990),
-        sell(1, 39_990),
+        entry(Buy, 5, 10_000),
+        entry(Buy, 2, 40_000),
+        entry(Sell, 4, 9_990),
+        entry(Sell, 1, 39_990),
         Call::Uncrossing,
         Call::Uncrossing,
         Call::Cut {
@@ -120,12 +113,12 @@ pub(crate) fn run_registers(rt: &HostRuntime) -> anyhow::Result<()> {
 pub(crate) fn run_crowd(rt: &HostRuntime) -> anyhow::Result<()> {
     let mut calls = Vec::new(rt.alloc());
     for i in 0..128u32 {
-        calls.push(buy(if i == 0 { 1 } else { 2 }, 10_000))?;
+        calls.push(entry(Buy, if i == 0 { 1 } else { 2 }, 10_000))?;
     }
     for i in 0..128u32 {
-        calls.push(sell(if i == 127 { 1 } else { 2 }, 10_000))?;
+        calls.push(entry(Sell, if i == 127 { 1 } else { 2 }, 10_000))?;
     }
-    calls.push(buy(1, 10_000))?;
+    calls.push(entry(Buy, 1, 10_000))?;
     calls.push(Call::Uncrossing)?;
     let mut book = Table::new(rt.alloc(), 256)?;
     let Ok(session) = Session::open(10, 30_000) else {
@@ -134,7 +127,7 @@ pub(crate) fn run_crowd(rt: &HostRuntime) -> anyhow::Result<()> {
     let mut register = [BLANK; 255];
     let journal = run(rt.alloc(), &mut book, session, &calls, &mut register)?;
     println!(rt; "trades {}", journal.trades.len())?;
-    match book.rank(Side::Buy, 1) {
+    match book.rank(Buy, 1) {
         Some(_) => println!(rt; "a buy is left")?,
         None => println!(rt; "no buy is left")?,
     }

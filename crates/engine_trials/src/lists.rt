@@ -1,14 +1,15 @@
 // Generated lists of calls, on both makes and on the calculator.
-use crate::tallies::Tally;
-use book::{OrderBook, Side};
-use calculator::{PlainBook, PlainReply, Source};
+use crate::tallies::Outcome;
+use book::{Live, OrderBook, Side};
+use calculator::{PlainBook, PlainOrder, PlainRefusal, PlainReply, Source};
 use engine::{Journal, run};
 use ladder::Ladder;
 use note::Trade;
+use price::Indication;
 use session::Session;
 use std::alloc::{AllocError, Global};
 use table::Table;
-use trading::{Answer, Call, Refusal};
+use trading::{Answer, Call};
 
 /// How many calls a list has.
 const CALLS: u32 = 30;
@@ -22,10 +23,10 @@ const UNWRITTEN: Trade = Trade {
 /// What the calculator says of a list.
 #[derive(Drop)]
 struct Expected {
-    replies: Vec<PlainReply>,
-    /// The trades of all uncrossings, and how many each reply has.
+    /// What each call is answered; of a refusal its number.
+    answers: Vec<Result<Answer, u8>>,
+    /// The trades of all uncrossings.
     log: Vec<Trade>,
-    counts: Vec<usize>,
     register: Vec<Trade>,
     book: PlainBook,
 }
@@ -58,28 +59,18 @@ fn random_call(source: &mut Source) -> Call {
 }
 
 fn random_calls(heap: Global, source: &mut Source) -> Result<Vec<Call>, AllocError> {
-    let mut calls = Vec::new(heap);
-    for _ in 0..CALLS {
-        calls.push(random_call(source))?;
-    }
-    Ok(calls)
+    (0..CALLS).map(|_| random_call(source)).collect(heap)
 }
 
 /// A register of so many places in which nothing is written.
 fn blank(heap: Global, places: usize) -> Result<Vec<Trade>, AllocError> {
-    let mut register = Vec::new(heap);
-    for _ in 0..places {
-        register.push(UNWRITTEN)?;
-    }
-    Ok(register)
+    (0..places).map(|_| UNWRITTEN).collect(heap)
 }
 
 /// Writes trades over the first places of a register.
 fn write_over(register: &mut [Trade], trades: &[Trade]) {
-    for (i, trade) in trades.iter().enumerate() {
-        if let Some(place) = register.get_mut(i) {
-            *place = *trade;
-        }
+    for (place, trade) in register.iter_mut().zip(trades.iter()) {
+        *place = *trade;
     }
 }
 
@@ -88,7 +79,7 @@ fn ask(
     book: &mut PlainBook,
     call: Call,
     places: usize,
-) -> Result<PlainReply, AllocError> {
+) -> Result<Result<PlainReply, PlainRefusal>, AllocError> {
     match call {
         Call::Entry {
             side,
@@ -102,19 +93,30 @@ fn ask(
     }
 }
 
-/// Adds what the calculator answered.
-fn note(expected: &mut Expected, reply: PlainReply) -> Result<(), AllocError> {
-    let mut count = 0usize;
-    if let PlainReply::Uncrossed(_) = reply {
-        count = expected.book.trades.len();
-        write_over(&mut expected.register, &expected.book.trades);
-        for trade in expected.book.trades.iter() {
-            expected.log.push(*trade)?;
+impl Expected {
+    /// Adds the trades of the last uncrossing, and says where they stand in the log.
+    fn add_trades(&mut self, told: Indication) -> Result<Answer, AllocError> {
+        let trades = &self.book.trades;
+        let first = self.log.len();
+        write_over(&mut self.register, trades);
+        self.log.extend(trades.iter().copied())?;
+        Ok(Answer::Uncrossed {
+            told,
+            first,
+            count: trades.len(),
+        })
+    }
+
+    /// What is answered where the calculator replies so.
+    fn answer(&mut self, reply: PlainReply) -> Result<Answer, AllocError> {
+        match reply {
+            PlainReply::Entered(number) => Ok(Answer::Entered(number)),
+            PlainReply::Cut => Ok(Answer::Cut),
+            PlainReply::Withdrawn => Ok(Answer::Withdrawn),
+            PlainReply::Indicated(told) => Ok(Answer::Indicated(told)),
+            PlainReply::Uncrossed(told) => self.add_trades(told),
         }
     }
-    expected.replies.push(reply)?;
-    expected.counts.push(count)?;
-    Ok(())
 }
 
 fn expect(
@@ -123,69 +125,51 @@ fn expect(
     calls: &[Call],
     places: usize,
 ) -> Result<Expected, AllocError> {
-    let register = blank(heap, places)?;
     let mut expected = Expected {
-        replies: Vec::new(heap),
+        answers: Vec::new(heap),
         log: Vec::new(heap),
-        counts: Vec::new(heap),
-        register,
+        register: blank(heap, places)?,
         book,
     };
     for call in calls {
-        let reply = ask(heap, &mut expected.book, *call, places)?;
-        note(&mut expected, reply)?;
+        let answer = match ask(heap, &mut expected.book, *call, places)? {
+            Ok(reply) => Ok(expected.answer(reply)?),
+            Err(why) => Err(u8::from(why)),
+        };
+        expected.answers.push(answer)?;
     }
     Ok(expected)
 }
 
-/// Whether an answer is the calculator's, with its trades at a place of the log.
-fn agrees(answer: Result<Answer, Refusal>, reply: PlainReply, at: usize, trades: usize) -> bool {
-    match (answer, reply) {
-        (Ok(Answer::Entered(given)), PlainReply::Entered(wanted)) => given == wanted,
-        (Ok(Answer::Cut), PlainReply::Cut) => true,
-        (Ok(Answer::Withdrawn), PlainReply::Withdrawn) => true,
-        (Ok(Answer::Indicated(given)), PlainReply::Indicated(wanted)) => given == wanted,
-        (Ok(Answer::Uncrossed { told, first, count }), PlainReply::Uncrossed(wanted)) => {
-            told == wanted && first == at && count == trades
-        }
-        (Err(why), PlainReply::Refused(number)) => u8::from(why) == number,
-        _ => false,
-    }
+/// Whether the answers are the calculator's, and refusals have its numbers.
+fn answers_agree(journal: &Journal, expected: &Expected) -> bool {
+    journal
+        .answers
+        .iter()
+        .map(|answer| answer.map_err(u8::from))
+        .eq(expected.answers.iter().copied())
 }
 
-fn answers_agree(journal: &Journal, expected: &Expected) -> bool {
-    if journal.answers.len() != expected.replies.len() {
-        return false;
-    }
-    let mut at = 0usize;
-    let counted = expected.replies.iter().zip(expected.counts.iter());
-    for (answer, (reply, count)) in journal.answers.iter().zip(counted) {
-        if !agrees(*answer, *reply, at, *count) {
-            return false;
+/// Whether what a book finds of a number is what the calculator holds; an order that has left holds 0.
+fn order_agrees(held: Option<Live>, order: PlainOrder) -> bool {
+    match held {
+        Some(live) => {
+            live.body.quantity == order.quantity
+                && live.body.limit == order.limit
+                && live.body.side == order.side
         }
-        at = at.saturating_add(*count);
+        None => order.quantity == 0,
     }
-    true
 }
 
 /// Whether a book holds the calculator's orders and no others.
 fn book_agrees<B: OrderBook>(book: &B, plain: &PlainBook) -> bool {
-    let mut number = 0u32;
-    for order in plain.orders.iter() {
-        number = number.saturating_add(1);
-        let held = match book.find(number) {
-            Some(live) => {
-                live.body.quantity == order.quantity
-                    && live.body.limit == order.limit
-                    && live.body.side == order.side
-            }
-            None => order.quantity == 0,
-        };
-        if !held {
-            return false;
-        }
-    }
-    book.last() == number && book.find(number.saturating_add(1)).is_none()
+    let agree = (1u32..=u32::MAX)
+        .zip(plain.orders.iter())
+        .all(|(number, order)| order_agrees(book.find(number), *order));
+    agree
+        && book.last() as usize == plain.orders.len()
+        && book.find(book.last().saturating_add(1)).is_none()
 }
 
 /// Whether a make does what the calculator does.
@@ -206,44 +190,33 @@ fn make_agrees<B: OrderBook>(
     )
 }
 
-fn try_list(heap: Global, source: &mut Source, tally: &mut Tally) -> Result<(), AllocError> {
-    let tick = source.below(3).saturating_add(1);
-    let scarcity = source.below(30).saturating_add(1);
-    let Ok(session) = Session::open(tick, scarcity) else {
-        return Ok(());
-    };
-    let places = source.below(7).saturating_add(2) as usize;
+fn try_list(heap: Global, source: &mut Source) -> Result<Outcome, AllocError> {
+    let tick = source.below(3) + 1;
+    let scarcity = source.below(30) + 1;
+    let session = Session::open(tick, scarcity).unwrap();
+    let places = source.below(7) as usize + 2;
     let room = source.below(5) as usize;
     let calls = random_calls(heap, source)?;
-    let expected = expect(
-        heap,
-        PlainBook::new(heap, places, tick, scarcity),
-        &calls,
-        room,
-    )?;
-    for reply in expected.replies.iter() {
-        tally.count(*reply);
-    }
-    tally.trades = tally
-        .trades
-        .saturating_add((expected.log.len() & 0xffff) as u32);
+    let plain = PlainBook::new(heap, places, tick, scarcity);
+    let expected = expect(heap, plain, &calls, room)?;
     let mut table = Table::new(heap, places)?;
-    if !make_agrees(heap, &mut table, session, &calls, &expected)? {
-        tally.table_apart = tally.table_apart.saturating_add(1);
-    }
+    let table_apart = !make_agrees(heap, &mut table, session, &calls, &expected)?;
     let mut ladder = Ladder::new(heap, places, places)?;
-    if !make_agrees(heap, &mut ladder, session, &calls, &expected)? {
-        tally.ladder_apart = tally.ladder_apart.saturating_add(1);
-    }
-    Ok(())
+    let ladder_apart = !make_agrees(heap, &mut ladder, session, &calls, &expected)?;
+    Ok(Outcome {
+        answers: expected.answers,
+        trades: expected.log.len(),
+        table_apart,
+        ladder_apart,
+    })
 }
 
 /// So many generated lists.
-pub(crate) fn try_lists(heap: Global, seed: u64, lists: u32) -> Result<Tally, AllocError> {
+pub(crate) fn try_lists(heap: Global, seed: u64, lists: u32) -> Result<Vec<Outcome>, AllocError> {
     let mut source = Source::new(seed);
-    let mut tally = Tally::new();
+    let mut outcomes = Vec::new(heap);
     for _ in 0..lists {
-        try_list(heap, &mut source, &mut tally)?;
+        outcomes.push(try_list(heap, &mut source)?)?;
     }
-    Ok(tally)
+    Ok(outcomes)
 }

@@ -1,47 +1,36 @@
-// What the calls of the generated lists came to.
-use calculator::PlainReply;
+// What came of the generated lists.
+use std::alloc::{AllocError, Global};
+use trading::Answer;
 
-/// Counts by kind of answer, and lists on which a make and the calculator differ.
-#[derive(Clone, Copy)]
-pub(crate) struct Tally {
-    pub(crate) entered: u32,
-    pub(crate) cut: u32,
-    pub(crate) withdrawn: u32,
-    pub(crate) indicated: u32,
-    pub(crate) uncrossed: u32,
-    pub(crate) trades: u32,
-    /// By the number of the refusal.
-    pub(crate) refused: [u32; 16],
-    pub(crate) table_apart: u32,
-    pub(crate) ladder_apart: u32,
+/// What came of a generated list of calls.
+#[derive(Drop)]
+pub(crate) struct Outcome {
+    /// What the calculator answers; of a refusal its number.
+    pub(crate) answers: Vec<Result<Answer, u8>>,
+    /// How many trades all its uncrossings made.
+    pub(crate) trades: usize,
+    /// Whether the table does something else than the calculator.
+    pub(crate) table_apart: bool,
+    /// Whether the ladder does.
+    pub(crate) ladder_apart: bool,
 }
 
-impl Tally {
-    pub(crate) fn new() -> Tally {
-        Tally {
-            entered: 0,
-            cut: 0,
-            withdrawn: 0,
-            indicated: 0,
-            uncrossed: 0,
-            trades: 0,
-            refused: [0; 16],
-            table_apart: 0,
-            ladder_apart: 0,
-        }
+/// The answers of all lists.
+pub(crate) fn all_answers(
+    heap: Global,
+    outcomes: &[Outcome],
+) -> Result<Vec<Result<Answer, u8>>, AllocError> {
+    let mut answers = Vec::new(heap);
+    for outcome in outcomes {
+        answers.extend(outcome.answers.iter().copied())?;
     }
+    Ok(answers)
+}
 
-    pub(crate) fn count(&mut self, reply: PlainReply) {
-        match reply {
-            PlainReply::Entered(_) => self.entered = self.entered.saturating_add(1),
-            PlainReply::Cut => self.cut = self.cut.saturating_add(1),
-            PlainReply::Withdrawn => self.withdrawn = self.withdrawn.saturating_add(1),
-            PlainReply::Indicated(_) => self.indicated = self.indicated.saturating_add(1),
-            PlainReply::Uncrossed(_) => self.uncrossed = self.uncrossed.saturating_add(1),
-            PlainReply::Refused(number) => {
-                let i = (number & 15) as usize;
-                self.refused[i] = self.refused[i].saturating_add(1);
-            }
-        }
-    }
+/// How many trades the lists made.
+pub(crate) fn traded(outcomes: &[Outcome]) -> usize {
+    outcomes
+        .iter()
+        .map(|outcome| outcome.trades)
+        .fold(0, usize::saturating_add)
 }

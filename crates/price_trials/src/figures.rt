@@ -2,12 +2,18 @@
 ghost use Rattle.price_trials.specs.Figures.{AuctionFigures};
 
 use book::OrderBook;
-use calculator::{PlainOrder, buy, fill, sell};
+use book::Side::{Buy, Sell};
+use calculator::{PlainOrder, fill, order};
 use ladder::Ladder;
 use price::indication;
 use session::Session;
 use std::alloc::{AllocError, Global};
 use table::Table;
+
+/// One buy and one sell, each by its quantity and its limit.
+fn pair(bought: u32, buy: u32, sold: u32, sell: u32) -> [PlainOrder; 2] {
+    [order(Buy, bought, buy), order(Sell, sold, sell)]
+}
 
 /// What a book answers in a session, as text.
 fn answer<B: OrderBook>(
@@ -16,11 +22,7 @@ fn answer<B: OrderBook>(
     tick: u32,
     scarcity: u32,
 ) -> Result<String, AllocError> {
-    let told = match Session::open(tick, scarcity) {
-        Ok(session) => indication(book, session),
-        Err(why) => Err(why),
-    };
-    match told {
+    match Session::open(tick, scarcity).and_then(|session| indication(book, session)) {
         Ok(told) => format!(in heap; "{} {} {}", told.price, told.volume, told.imbalance),
         Err(why) => format!(in heap; "refused {}", u8::from(why)),
     }
@@ -40,21 +42,25 @@ fn show(rt: &HostRuntime, orders: &[PlainOrder], tick: u32, scarcity: u32) -> an
 
 fn show_figures(rt: &HostRuntime) -> anyhow::Result<()> {
     show(rt, &[], 10, 30_000)?;
-    show(rt, &[buy(10, 1_200), sell(10, 1_199)], 10, 30_000)?;
-    show(rt, &[buy(10, 1_050), sell(10, 1_000)], 10, 30_000)?;
-    show(rt, &[buy(15, 1_050), sell(10, 1_000)], 10, 30_000)?;
-    show(rt, &[buy(10, 1_050), sell(15, 1_000)], 10, 30_000)?;
+    show(rt, &pair(10, 1_200, 10, 1_199), 10, 30_000)?;
+    show(rt, &pair(10, 1_050, 10, 1_000), 10, 30_000)?;
+    show(rt, &pair(15, 1_050, 10, 1_000), 10, 30_000)?;
+    show(rt, &pair(10, 1_050, 15, 1_000), 10, 30_000)?;
     let both = [
-        buy(10, 1_001),
-        buy(5, 1_000),
-        sell(10, 1_000),
-        sell(5, 1_001),
+        order(Buy, 10, 1_001),
+        order(Buy, 5, 1_000),
+        order(Sell, 10, 1_000),
+        order(Sell, 5, 1_001),
     ];
     show(rt, &both, 10, 30_000)?;
-    let plateau = [buy(10, 1_010), buy(20, 1_005), sell(10, 1_000)];
+    let plateau = [
+        order(Buy, 10, 1_010),
+        order(Buy, 20, 1_005),
+        order(Sell, 10, 1_000),
+    ];
     show(rt, &plateau, 10, 30_000)?;
-    show(rt, &[buy(15, 1_050), sell(10, 1_000)], 10, 10_234)?;
-    show(rt, &[buy(15, 1_050), sell(10, 1_000)], 10, 9_999)
+    show(rt, &pair(15, 1_050, 10, 1_000), 10, 10_234)?;
+    show(rt, &pair(15, 1_050, 10, 1_000), 10, 9_999)
 }
 
 /// The worked figures, which hold of the definitions that `indication` is proved against.
@@ -66,34 +72,26 @@ pub(crate) fn run_figures(rt: &HostRuntime) -> anyhow::Result<()>
 
 /// Limits, ticks and scarcity prices at the ends of their ranges.
 pub(crate) fn run_ends(rt: &HostRuntime) -> anyhow::Result<()> {
-    show(rt, &[buy(5, 1), sell(5, 1)], 1, 1)?;
-    show(
-        rt,
-        &[buy(3, 10_000_000), sell(2, 10_000_000)],
-        1,
-        10_000_000,
-    )?;
-    show(rt, &[buy(1, 10_000_000), sell(1, 1)], 1, 10_000_000)?;
-    show(rt, &[buy(1, 10_000_000), sell(1, 1)], 1_000, 10_000_000)?;
-    show(rt, &[buy(1, 10_000_000), sell(1, 1)], 1_000, 999)?;
-    show(rt, &[buy(1, 10_000_000), sell(1, 1)], 1_000, 1)?;
-    show(rt, &[buy(1, 20), sell(1, 11)], 10, 100)?;
-    show(rt, &[buy(1, 20), sell(1, 11)], 10, 110)?;
-    show(rt, &[buy(1, 20)], 0, 100)?;
-    show(rt, &[buy(1, 20)], 1_001, 100)?;
-    show(rt, &[buy(1, 20)], 10, 0)?;
-    show(rt, &[buy(1, 20)], 10, 10_000_001)
+    show(rt, &pair(5, 1, 5, 1), 1, 1)?;
+    show(rt, &pair(3, 10_000_000, 2, 10_000_000), 1, 10_000_000)?;
+    show(rt, &pair(1, 10_000_000, 1, 1), 1, 10_000_000)?;
+    show(rt, &pair(1, 10_000_000, 1, 1), 1_000, 10_000_000)?;
+    show(rt, &pair(1, 10_000_000, 1, 1), 1_000, 999)?;
+    show(rt, &pair(1, 10_000_000, 1, 1), 1_000, 1)?;
+    show(rt, &pair(1, 20, 1, 11), 10, 100)?;
+    show(rt, &pair(1, 20, 1, 11), 10, 110)?;
+    show(rt, &[order(Buy, 1, 20)], 0, 100)?;
+    show(rt, &[order(Buy, 1, 20)], 1_001, 100)?;
+    show(rt, &[order(Buy, 1, 20)], 10, 0)?;
+    show(rt, &[order(Buy, 1, 20)], 10, 10_000_001)
 }
 
 /// Full books: 256 buys, and 255 buys with one sell.
 pub(crate) fn run_crowds(rt: &HostRuntime) -> anyhow::Result<()> {
-    let mut crowd = Vec::new(rt.alloc());
-    for _ in 0..255 {
-        crowd.push(buy(6_858, 100))?;
-    }
-    crowd.push(buy(6_858, 99))?;
+    let mut crowd = vec![in rt.alloc(); order(Buy, 6_858, 100); 255]?;
+    crowd.push(order(Buy, 6_858, 99))?;
     show(rt, &crowd, 10, 30_000)?;
     let _ = crowd.pop();
-    crowd.push(sell(6_858, 100))?;
+    crowd.push(order(Sell, 6_858, 100))?;
     show(rt, &crowd, 10, 30_000)
 }

@@ -5,7 +5,8 @@
 mod books;
 mod figures;
 
-use books::try_books;
+use books::{Outcome, try_books};
+use calculator::Ending;
 use figures::{run_crowds, run_ends, run_figures};
 
 /// Where the generated numbers start.
@@ -13,17 +14,44 @@ const SEED: u64 = 20_261_118;
 /// How many books are generated.
 const BOOKS: u32 = 20_000;
 
-fn run_books(rt: &HostRuntime) -> anyhow::Result<()> {
-    let tally = try_books(rt.alloc(), SEED, BOOKS)?;
-    println!(rt; "generated books {}", tally.books)?;
-    println!(rt; "nothing trades {}", tally.nothing)?;
-    println!(rt; "all imbalances positive {}", tally.positive)?;
-    println!(rt; "all imbalances negative {}", tally.negative)?;
-    println!(rt; "both signs {}", tally.mixed)?;
-    println!(rt; "all imbalances zero {}", tally.level)?;
-    println!(rt; "price at the highest admissible {}", tally.capped)?;
-    println!(rt; "a make and the calculator differ {}", tally.apart)?;
+/// Prints how many of the outcomes a test holds of.
+fn show_count<F: Fn(&Outcome) -> bool>(
+    rt: &HostRuntime,
+    words: &str,
+    outcomes: &[Outcome],
+    counts: F,
+) -> anyhow::Result<()>
+    requires { F.IsAlwaysCallable counts }
+{
+    let count = outcomes.iter().filter(|outcome| counts(outcome)).count();
+    println!(rt; "{words} {count}")?;
     Ok(())
+}
+
+fn run_books(rt: &HostRuntime) -> anyhow::Result<()> {
+    let outcomes = try_books(rt.alloc(), SEED, BOOKS)?;
+    println!(rt; "generated books {}", outcomes.len())?;
+    for (words, ending) in [
+        ("nothing trades", None),
+        ("all imbalances positive", Some(Ending::Positive)),
+        ("all imbalances negative", Some(Ending::Negative)),
+        ("both signs", Some(Ending::Mixed)),
+        ("all imbalances zero", Some(Ending::Level)),
+    ] {
+        show_count(rt, words, &outcomes, |outcome| outcome.ending == ending)?;
+    }
+    show_count(
+        rt,
+        "price at the highest admissible",
+        &outcomes,
+        |outcome| { outcome.capped },
+    )?;
+    show_count(
+        rt,
+        "a make and the calculator differ",
+        &outcomes,
+        |outcome| { outcome.apart },
+    )
 }
 
 fn run(rt: &HostRuntime) -> anyhow::Result<()> {
