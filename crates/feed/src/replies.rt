@@ -50,7 +50,6 @@ fn answered(places: Places, answer: Result<Answer, Refusal>) -> Result<Done, Fau
 }
 
 /// The answer to a line; a call takes the next of the answers.
-#[tactic(auto, using(crate::proofs::Telling::one_opening))]
 fn answer_line(
     step: Result<Step, Fault>,
     answers: &mut slice::Iter<'_, Result<Answer, Refusal>>,
