@@ -1,5 +1,5 @@
 -- A feed of which the lines up to a position are read and judged. Assumes nothing.
-use Rattle.std.proofs.Common.{◌≡◌, ℕ, ◌+◌, ◌<◌, ◌≤◌, List, [], ◌∷◌, ◌++◌, length, drop, Some, None, Ok, Err, Option, Result, sym, refl, ap, ◌∙◌, subst, append_assoc, append-nil, arith}
+use Rattle.std.proofs.Common.{◌≡◌, ℕ, ◌+◌, ◌<◌, List, [], ◌∷◌, ◌++◌, length, drop, Some, None, Ok, Err, Option, Result, sym, refl, ap, ◌∙◌, subst, append_assoc, append-nil, arith}
 use lib.Seq.{append_snoc}
 use Rattle.lines.specs.declared.kinds.Line.{Line}
 use Rattle.lines.specs.declared.refusals.MalformedLine.{MalformedLine}

@@ -37,11 +37,11 @@ tell_none ss answers replies left e none whole = record {
 
 pub one_opening : (s : Result Step Fault) (answers : List (Result Answer Refusal)) → s ≡ Ok Opening → AnswersOne s answers (Ok Accepted) answers
 unfolding told_all
-one_opening s answers e = subst (λ x. AnswersOne x answers (Ok Accepted) answers) (sym e) (record { head = λ log ss. refl; taken = omega arith })
+one_opening s answers e = subst (λ x. AnswersOne x answers (Ok Accepted) answers) (sym e) (record { head = λ log ss. refl; taken = omega arith; behind = refl })
 
 pub one_fault : (s : Result Step Fault) (fault : Fault) (answers : List (Result Answer Refusal)) → s ≡ Err fault → AnswersOne s answers (Err fault) answers
 unfolding told_all
-one_fault s fault answers e = subst (λ x. AnswersOne x answers (Err fault) answers) (sym e) (record { head = λ log ss. refl; taken = omega arith })
+one_fault s fault answers e = subst (λ x. AnswersOne x answers (Err fault) answers) (sym e) (record { head = λ log ss. refl; taken = omega arith; behind = refl })
 
 pub one_call : (s : Result Step Fault) (c : Call) (p : Places) (answers : List (Result Answer Refusal)) (a : Result Answer Refusal) (left : List (Result Answer Refusal)) (r : Result Done Fault) → s ≡ Ok (Asking c p) → answers ≡ a ∷ left
     → ((log : List Trade) → read log r ≡ told_of p (reply_read log a)) → AnswersOne s answers r left
@@ -49,6 +49,7 @@ unfolding told_all replies_read
 one_call s c p answers a left r e first reads = subst (λ x. AnswersOne x answers r left) (sym e) (subst (λ as'. AnswersOne (Ok (Asking c p)) as' r left) (sym first) (record {
   head = λ log ss. ap (λ x. x ∷ told_all ss (replies_read log left)) (sym (reads log));
   taken = omega arith;
+  behind = refl;
 }))
 
 counted : (s : Result Step Fault) (ss : List (Result Step Fault)) → length (calls_of (s ∷ ss)) ≡ length (with_call s []) + length (calls_of ss)

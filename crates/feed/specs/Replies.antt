@@ -70,3 +70,4 @@ Left (Err fault) answers = Unit {0}
 pub record AnswersOne (s : Result Step Fault) (answers : List (Result Answer Refusal)) (r : Result Done Fault) (left : List (Result Answer Refusal)) : Type 0 where
   pub head : (log : List Trade) (ss : List (Result Step Fault)) → told_all (s ∷ ss) (replies_read log answers) ≡ read log r ∷ told_all ss (replies_read log left)
   pub taken : length answers ≡ length (with_call s []) + length left
+  pub behind : left ≡ drop (length (with_call s [])) answers

@@ -17,7 +17,7 @@ pub enum Cause {
 }
 
 /// The layer that refuses: that of a refused call, or the reading before it.
-// Its cases stand side by side, not one around those of `trading`, so that each layer has one name.
+// The layers of a call stand beside the reading, not wrapped in one case: so each layer has one name.
 #[derive(Clone, Copy, Debug, PartialEq, Eq)]
 pub enum Layer {
     Read,

@@ -50,7 +50,6 @@ fn answered(places: Places, answer: Result<Answer, Refusal>) -> Result<Done, Fau
 }
 
 /// The answer to a line; a call takes the next of the answers.
-#[tactic(auto, using(crate::proofs::Telling::one_opening))]
 fn answer_line(
     step: Result<Step, Fault>,
     answers: &mut slice::Iter<'_, Result<Answer, Refusal>>,
@@ -70,6 +69,7 @@ fn answer_line(
 }
 
 /// Answers each line.
+// Into room that the caller made before it carried out the calls, so that nothing can fail here: `extend` could.
 #[tactic(auto, using(crate::proofs::Telling::tell_none, crate::proofs::Telling::told_whole))]
 pub(crate) fn answer_lines(
     steps: &[Result<Step, Fault>],

@@ -37,6 +37,7 @@ pub(crate) fn read_script(heap: Global, feed: &[u8]) -> Result<Script, AllocErro
     let mut steps = Vec::new(heap);
     let mut calls = Vec::new(heap);
     let mut reader = LineReader::new(feed);
+    // No `while let`: where a line begins is asked before it is read.
     loop {
         let start = reader.position();
         let Some(read) = reader.next_line() else {

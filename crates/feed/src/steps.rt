@@ -14,7 +14,7 @@ use session::{MAX_TICK, Session};
 use trading::{Call, Refusal};
 
 /// What an accepted line asks for.
-// No `Option` of a call with its places: an opening is a step of its own, and is answered, where `None` would say that a step lacks.
+// An opening has its name here: `None` in place of a call would not say what was accepted.
 #[derive(Clone, Copy)]
 pub(crate) enum Step {
     /// The session is open.

@@ -1,7 +1,10 @@
 use Rattle.std.proofs.lemmas.Result.{err_from_is_err_and}
 use Rattle.std.proofs.Common.{Ok, ap, ◌∙◌}
-use Rattle.feed.proofs.Telling.{one_fault, one_call}
+use Rattle.feed.proofs.Telling.{one_opening, one_fault, one_call}
 use Rattle.feed.proofs.replies.answer_line.Goals as goal
+
+pub returns-in-Opening : goal.returns-in-Opening
+returns-in-Opening c = one_opening _ _ (c.in_ok-step.was ∙ ap Ok c.in-Opening.is)
 
 pub returns-in-Some : goal.returns-in-Some
 returns-in-Some c = one_call _ c.in-Asking.call c.in-Asking.places _ _ _ _ (c.in_ok-step.was ∙ ap Ok c.in-Asking.is) c.in-Some.ensures.steps c.answered.ensures
