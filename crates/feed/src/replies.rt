@@ -14,6 +14,7 @@ use std::slice;
 use trading::{Answer, Refusal};
 
 /// What an accepted line is answered.
+// An uncrossing has its three parts as in the engine's answer: a struct for both would only put one more name between them and a reader.
 #[derive(Clone, Copy, Debug, PartialEq, Eq)]
 pub enum Done {
     /// The session is open, the cut was made, or the order was withdrawn.

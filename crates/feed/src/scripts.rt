@@ -11,6 +11,7 @@ use std::alloc::{AllocError, Global};
 use trading::Call;
 
 /// What the lines of a feed ask for, the session that they open, and the calls among them.
+// The calls stand by themselves as well as in their steps: the engine runs a slice of calls.
 #[derive(Drop)]
 pub(crate) struct Script {
     pub(crate) session: Option<Session>,
