@@ -29,6 +29,7 @@ impl Body {
         if by >= self.quantity {
             return None;
         }
+        // Each field by its name: what a type with facts takes over by `..` has to be proved again, and the check refuses it.
         Some(Body {
             side: self.side,
             limit: self.limit,

@@ -16,6 +16,8 @@ use std::alloc::{AllocError, Global};
 use trading::{Answer, Call, Refusal};
 
 /// Adds trades to a log that has room for them.
+// That the room stays is a fact of the log before and after, which no field of it can hold: each function says it.
+// `extend` could fail here, and nothing may between two calls.
 fn append(log: &mut Vec<Trade>, trades: &[Trade])
     requires { vec_len log.old + length trades.now ≤ vec_capacity log.old }
     ensures items { log.new.items ≡ log.old.items ++ trades.now }
@@ -27,6 +29,7 @@ fn append(log: &mut Vec<Trade>, trades: &[Trade])
 }
 
 /// Uncrosses the book and adds the trades to the log.
+// What it is lent is what `run` is lent for a call: a struct of these loans would be taken apart again at once.
 fn uncross_into<B: OrderBook>(
     book: &mut B,
     session: Session,

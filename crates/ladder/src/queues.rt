@@ -11,6 +11,7 @@ use ranking::settle_last;
 use std::alloc::{AllocError, Global};
 
 /// The orders of one side, in rank.
+// That the room stays is a fact of the run before and after, which no field can hold: each function that changes it says so.
 #[derive(Drop)]
 pub(crate) struct Queue<S: OneSide> {
     pub(crate) run: Vec<SideOrder<S>>,
@@ -60,6 +61,7 @@ impl<S: OneSide> Queue<S> {
         requires { vec_len self.now.run ≤ 256 }
         ensures { result ≡ quantity_at S.SIDE m (orders_of self.now.run.items) }
     {
+        // Ends at the first order that does not trade: in rank, none behind it does.
         let mut sum = 0u32;
         for order in self.run.iter() {
             let body = order.live.body;

@@ -2,6 +2,7 @@
 ghost use Rattle.std.specs.Prelude.{◌≡◌, ◌≤◌, length};
 
 /// A feed, and the position of the next line's first byte.
+// The position, and no slice of what is left: a caller asks for it, and each field of a line says its place in the feed.
 #[derive(Drop)]
 pub struct LineReader<'a> {
     pub(crate) feed: &'a [u8],

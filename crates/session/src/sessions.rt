@@ -7,6 +7,7 @@ pub const MAX_TICK: u32 = 1_000;
 pub const MAX_PRICE: u32 = 10_000_000;
 
 /// The tick and the scarcity price of a session, in centavos. No session outside its ranges exists.
+// Contracts give its two numbers to the rules, and not the session: the rules say what they say of any two numbers.
 #[derive(Clone, Copy)]
 pub struct Session {
     /// Prices are whole multiples of it.

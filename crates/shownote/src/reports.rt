@@ -113,6 +113,7 @@ pub fn report(heap: Global, input: &[u8]) -> Result<String, AllocError>
         sell: 0,
         quantity: 0,
     };
+    // As many places as a note has trades at most: reading a note takes no memory from the heap.
     let mut register = [nothing; MAX_TRADES];
     report_by(heap, input, &mut register)
 }

@@ -11,6 +11,7 @@ use book::{BookRefusal, Live, cut_live, position};
 use std::alloc::{AllocError, Global};
 
 /// Rows in the order of entry, each with its count.
+// That the room stays is a fact of the run before and after, which no field can hold: each function that changes it says so.
 #[derive(Drop)]
 pub(crate) struct Rows {
     pub(crate) run: Vec<Row>,

@@ -13,6 +13,7 @@ pub enum Answer {
     /// What an uncrossing would answer.
     Indicated(Indication),
     /// The uncrossing's price, volume and imbalance before it, and its trades as a part of the log.
+    // A part of the log, and no run of its own: room for all trades is made before the first call, so no call can fail for want of it.
     Uncrossed {
         told: Indication,
         /// The place of its first trade in the log.
