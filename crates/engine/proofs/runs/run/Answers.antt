@@ -13,12 +13,6 @@ loop-call-init g c =
     let two = subst (λ l. Going c.args.session.tick c.args.session.scarcity (length c.args.register.now) m c.args.register.now c.args.calls.now (vec_items c.in_ok-answers.answers) l m c.args.register.now 0) (sym trades.items) one in
     (omega (arith, answers.capacity), omega (arith, answers.len), omega (arith, trades.capacity, room), two)
 
-pub carry_out-answer-requires : goal.carry_out-answer-requires
-carry_out-answer-requires g c =
-    let going = c.loop-call.invariant.3 in
-    let sound = g.B.OrderBook.sound c.args.book.now in
-    omega (arith, c.loop-call.invariant.2, going.few, sound.room, sound.few, c.loop-call-test.true, c.loop-call.trades.ok.0)
-
 pub loop-call-preserved : goal.loop-call-preserved
 loop-call-preserved g c =
     let step = c.carry_out-answer.ensures in

@@ -2,11 +2,6 @@ use Rattle.std.proofs.Common.{length, ap, arith, rules}
 use Rattle.note.proofs.Putting.{room, next, done}
 use Rattle.note.proofs.writer.write_trades.Goals as goal
 
-pub overflow_add-end : goal.overflow_add-end
-overflow_add-end c =
-    let fits = room c.loop-trade.invariant (record { buy = 0; sell = 0; quantity = 0 }) (omega arith) in
-    search (rules, fits)
-
 pub slice_bounds-write_trade-end : goal.slice_bounds-write_trade-end
 slice_bounds-write_trade-end c =
     let fits = room c.loop-trade.invariant (record { buy = 0; sell = 0; quantity = 0 }) (omega arith) in

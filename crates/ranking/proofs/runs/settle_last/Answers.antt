@@ -1,15 +1,7 @@
-use Rattle.std.proofs.Common.{[], ◌∷◌, length, refl, ap, ◌∙◌, arith, length-append}
+use Rattle.std.proofs.Common.{length, refl, ap, ◌∙◌, arith}
 use Rattle.ranking.specs.Runs.{in_rank}
 use Rattle.ranking.proofs.Placing.{settled, rank_placed}
 use Rattle.ranking.proofs.runs.settle_last.Goals as goal
-
-pub returns-then-len-eq0 : goal.returns-then-len-eq0
-returns-then-len-eq0 g c =
-    record {
-      placed = λ xs x is. absurd (omega (arith, ap length is, length-append xs (x ∷ [])));
-      empty = λ is. is;
-      ranked = λ xs x is t. absurd (omega (arith, ap length is, length-append xs (x ∷ [])));
-    }
 
 pub returns : goal.returns
 returns g c =

@@ -1,14 +1,10 @@
-use Rattle.std.proofs.Common.{◌++◌, map, get_or, set, take, refl, sym, ap, ◌∙◌, append-nil, arith}
-use Rattle.std.proofs.lemmas.List.{drop_all, take_all}
+use Rattle.std.proofs.Common.{get_or, set, sym, ap, ◌∙◌, arith}
 use Rattle.std.proofs.lemmas.List.Edits.{map_over_more}
 use Rattle.book.specs.Meaning.{order_of}
 use Rattle.table.specs.Aheads.{ahead, shifted}
 use Rattle.table.proofs.Moving.{moves, stays}
 use Rattle.table.proofs.counts.shift_behind.Goals.{then-goes_ahead, else-goes_ahead}
 use Rattle.table.proofs.counts.shift_behind.Goals as goal
-
-pub loop-row-init : goal.loop-row-init
-loop-row-init g c = λ f is. refl
 
 pub loop-row-preserved : goal.loop-row-preserved
 loop-row-preserved g c = λ f is.
@@ -21,10 +17,3 @@ loop-row-preserved g c = λ f is.
       | then-goes_ahead w ↦ w.rows-is ∙ ap (set rows i) (moves f o x (sym {b = ahead o (order_of x.live)} w.if-goes_ahead.ensures) w.moved-row.result (is x.ahead w.moved-row.result w.moved-row.ensures)) ∙ more
       | else-goes_ahead w ↦ w.rows-is ∙ ap (set rows i) (stays f o x (sym {b = ahead o (order_of x.live)} w.if-goes_ahead.ensures)) ∙ more
     ]
-
-pub returns : goal.returns
-returns g c = λ f is.
-    let rows = c.args.rows.now in
-    let i = c.loop-row.row-index in
-    let h = shifted f (order_of c.args.live.now) in
-    c.loop-row.invariant f is ∙ ap (λ l. map h (take i rows) ++ l) (drop_all i rows c.loop-row-test.false) ∙ append-nil _ ∙ ap (map h) (take_all i rows c.loop-row-test.false)

@@ -1,13 +1,7 @@
-use Rattle.std.proofs.Common.{sym, ◌∙◌, arith}
+use Rattle.std.proofs.Common.{sym, ◌∙◌}
 use Rattle.ladder.specs.Ladders.{orders_of}
 use Rattle.ladder.proofs.Merging.{merged_bought, merged_sold}
 use Rattle.ladder.proofs.ladder_books.LadderOrderBook.at_limit.Goals as goal
-
-pub quantity-requires : goal.quantity-requires
-quantity-requires c = let b = c.args.self.now in omega (arith, b.fits, b.intake.few)
-
-pub quantity-requires-2 : goal.quantity-requires-2
-quantity-requires-2 c = let b = c.args.self.now in omega (arith, b.fits, b.intake.few)
 
 pub returns : goal.returns
 returns c =

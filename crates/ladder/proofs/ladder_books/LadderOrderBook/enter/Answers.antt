@@ -21,18 +21,6 @@ returns-in_err-number c =
     let now = book_is told.places (told.last ∙ number_refused m.places m.last (c.len.result + c.len-2.result) why told.answer) refl in
     record { answer = rw (p.1, p.2) went.answer; after = now ∙ went.after }
 
-pub push-requires : goal.push-requires
-push-requires c =
-    let b = c.args.self.now in
-    let given = number_given b.intake.places b.intake.last (c.len.result + c.len-2.result) c.in_ok-number.number c.in_ok-number.ensures.answer in
-    record { room = omega (arith, given.0, c.len.ensures, c.len-2.ensures, b.fits, b.buy_room); side = ap (is_side Buy) c.in-Buy.is }
-
-pub push-requires-in-Sell : goal.push-requires-in-Sell
-push-requires-in-Sell c =
-    let b = c.args.self.now in
-    let given = number_given b.intake.places b.intake.last (c.len.result + c.len-2.result) c.in_ok-number.number c.in_ok-number.ensures.answer in
-    record { room = omega (arith, given.0, c.len.ensures, c.len-2.ensures, b.fits, b.sell_room); side = ap (is_side Sell) c.in-Sell.is }
-
 pub invariant_of-self-in-Buy : goal.invariant_of-self-in-Buy
 invariant_of-self-in-Buy c =
     let b = c.args.self.now in

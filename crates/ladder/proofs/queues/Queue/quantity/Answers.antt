@@ -2,11 +2,8 @@ use Rattle.std.proofs.Common.{length, get_or, sym, ap, ◌∙◌, arith}
 use lib.ListN.{length-map}
 use Rattle.book.specs.Meaning.{order_of, meets}
 use Rattle.ladder.specs.Ladders.{orders_of}
-use Rattle.ladder.proofs.Queueing.{summed_none, summed_more, summed_stop, summed_all}
+use Rattle.ladder.proofs.Queueing.{summed_more, summed_stop, summed_all}
 use Rattle.ladder.proofs.queues.Queue.quantity.Goals as goal
-
-pub loop-order-init : goal.loop-order-init
-loop-order-init g c = summed_none _ _ _ c.args.self.now.sided c.args.self.now.ranked
 
 pub returns-then-not-trades_at : goal.returns-then-not-trades_at
 returns-then-not-trades_at g c =
@@ -16,9 +13,6 @@ returns-then-not-trades_at g c =
     let is = c.order-item.is ∙ ap (λ l. get_or l i item) c.deref-order-items.ensures.value in
     let stops = ap (λ s. meets s c.args.m item.live.body.limit) (sym c.SIDE.ensures) ∙ sym c.if-not-trades_at.ensures in
     summed_stop (λ x. order_of x.live) run g.S.OneSide.SIDE c.args.m i c.loop-order.sum item (omega (arith, ap length c.deref-order-items.ensures.value)) is c.loop-order.invariant stops
-
-pub overflow_add-sum : goal.overflow_add-sum
-overflow_add-sum g c = omega (arith, c.loop-order.invariant.bound, c.order-item.result.live.body.sized.1, c.requires, ap length c.deref-order-items.ensures.value, c.args.self.now.run.ok.0)
 
 pub loop-order-preserved : goal.loop-order-preserved
 loop-order-preserved g c =

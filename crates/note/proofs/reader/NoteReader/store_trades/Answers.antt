@@ -1,13 +1,9 @@
 use Rattle.std.proofs.Common.{◌+◌, ◌-◌, length, take, sym, ap, ◌∙◌, arith}
 use Rattle.std.proofs.lemmas.List.{take_more_set, take_all}
-use Rattle.std.proofs.Math.Nat.{sub-zero}
 use Rattle.std.proofs.lemmas.Result.{err_from_is_err_and}
 use Rattle.note.specs.Reading.{read_trades}
-use Rattle.note.proofs.Trading.{after_done, after_none, read_none, read_more, read_refused}
+use Rattle.note.proofs.Trading.{after_done, read_none, read_more, read_refused}
 use Rattle.note.proofs.reader.NoteReader.store_trades.Goals as goal
-
-pub loop-place-init : goal.loop-place-init
-loop-place-init c = let all = after_none (read_trades (length c.args.places.now) c.args.self.now) in simp sub-zero all
 
 pub returns-in_err-place : goal.returns-in_err-place
 returns-in_err-place c =

@@ -12,10 +12,6 @@ pub returns-then-size-gt-LEVEL : goal.returns-then-size-gt-LEVEL
 returns-then-size-gt-LEVEL g c =
     (settled _ _ c.args.self.now.crossed c.crossing-p.ensures.crossing c.crossing-p.ensures.low c.traded_at-here.ensures c.traded_at-next.ensures).stays c.if-goes_up.ensures (omega (arith, c.if-size-gt-LEVEL.true, c.size.ensures))
 
-pub lowest_same-requires-clause-low : goal.lowest_same-requires-clause-low
-lowest_same-requires-clause-low g c =
-    (settled _ _ c.args.self.now.crossed c.crossing-p.ensures.crossing c.crossing-p.ensures.low c.traded_at-here.ensures c.traded_at-next.ensures).reached c.if-goes_up.ensures
-
 pub returns : goal.returns
 returns g c =
     let s = settled _ _ c.args.self.now.crossed c.crossing-p.ensures.crossing c.crossing-p.ensures.low c.traded_at-here.ensures c.traded_at-next.ensures in

@@ -20,12 +20,6 @@ returns-in_err-number c =
     let now = book_is told.places (told.last ∙ number_refused m.places m.last c.len.result why told.answer) refl in
     record { answer = rw (p.1, p.2) went.answer; after = now ∙ went.after }
 
-pub push-requires : goal.push-requires
-push-requires c =
-    let b = c.args.self.now in
-    let given = number_given b.intake.places b.intake.last c.len.result c.in_ok-number.number c.in_ok-number.ensures.answer in
-    record { room = omega (arith, given.0, c.len.ensures, b.fits, b.room); few = omega (arith, b.fits, b.intake.few) }
-
 pub invariant_of-self-2 : goal.invariant_of-self-2
 invariant_of-self-2 c =
     let b = c.args.self.now in
