@@ -21,7 +21,9 @@ pub enum PlainReply {
 }
 
 /// Orders by number: place 0 has the order 1. An order that has left holds 0.
-// They are a run and no map by number, since the price is calculated over a run, and an indication allocates nothing.
+// They are a run and no map by number, since the price is calculated over a run, and an indication allocates nothing. An order that has
+// left stays in its place, with the 0 contracts that it holds: so it trades nowhere, with no case of its own.
+// The tick and the scarcity price are numbers here and no session: those of a session have ranges, and these may be any.
 #[derive(Drop)]
 pub struct PlainBook {
     pub orders: Vec<PlainOrder>,

@@ -13,6 +13,7 @@ pub enum Ending {
 }
 
 /// What is bought and what is sold at a price.
+// Of its own, and so is which orders trade: a trial compares them with those of the books and of the search.
 #[derive(Clone, Copy)]
 struct Offered {
     bought: u32,

@@ -15,7 +15,7 @@ pub const MAX_SURVEY: usize = 64;
 ///
 /// The item stands just before the first that it goes before, or last, and later places stay. Refused by the price, then if
 /// 64 places or all are used; a refusal leaves the run as it was. `used + 1` is at most 64, so that it does not overflow.
-// The run is memory that the caller lends, and `used` is judged and answered: so the count stands beside the slice.
+// The run is memory that the caller lends, of fixed places: `used` is judged and answered, and a slice of the used ones has no next place.
 pub fn contribute(
     session: Session,
     run: &mut [SurveyPrice],

@@ -1,4 +1,5 @@
 // Days that were worked out by hand, on both makes.
+use crate::lists::UNWRITTEN;
 use crate::shown::show;
 use book::Side::{Buy, Sell};
 use book::{OrderBook, Side};
@@ -9,11 +10,10 @@ use session::Session;
 use table::Table;
 use trading::Call;
 
-const BLANK: Trade = Trade {
-    buy: 0,
-    sell: 0,
-    quantity: 0,
-};
+/// A tick of 10 and a scarcity price of 30,000.
+fn session() -> Session {
+    Session::open(10, 30_000).unwrap()
+}
 
 fn entry(side: Side, quantity: u32, price: u32) -> Call {
     Call::Entry {
@@ -23,33 +23,24 @@ fn entry(side: Side, quantity: u32, price: u32) -> Call {
     }
 }
 
-/// Runs the calls on a book in a session of a tick of 10, and prints the answers.
+/// Runs the calls on a book, and prints the answers.
 fn play<B: OrderBook>(
     rt: &HostRuntime,
     book: &mut B,
-    scarcity: u32,
     calls: &[Call],
     register: &mut [Trade],
 ) -> anyhow::Result<()> {
-    let Ok(session) = Session::open(10, scarcity) else {
-        return Ok(());
-    };
-    let journal = run(rt.alloc(), book, session, calls, register)?;
+    let journal = run(rt.alloc(), book, session(), calls, register)?;
     show(rt, &journal)
 }
 
 /// Plays the calls on a table and on a ladder of 256 places, and prints what the order 2 holds then.
-fn play_both(
-    rt: &HostRuntime,
-    scarcity: u32,
-    calls: &[Call],
-    register: &mut [Trade],
-) -> anyhow::Result<()> {
+fn play_both(rt: &HostRuntime, calls: &[Call], register: &mut [Trade]) -> anyhow::Result<()> {
     let mut table = Table::new(rt.alloc(), 256)?;
-    play(rt, &mut table, scarcity, calls, register)?;
+    play(rt, &mut table, calls, register)?;
     show_second(rt, &table)?;
     let mut ladder = Ladder::new(rt.alloc(), 256, 256)?;
-    play(rt, &mut ladder, scarcity, calls, register)?;
+    play(rt, &mut ladder, calls, register)?;
     show_second(rt, &ladder)
 }
 
@@ -70,8 +61,8 @@ pub(crate) fn run_listing(rt: &HostRuntime) -> anyhow::Result<()> {
         Call::Uncrossing,
         Call::Withdrawal { number: 9 },
     ];
-    let mut register = [BLANK; 3];
-    play_both(rt, 30_000, &calls, &mut register)?;
+    let mut register = [UNWRITTEN; 3];
+    play_both(rt, &calls, &mut register)?;
     let mut bytes = [0u8; 9];
     match write_note(10_000, 2, &register, &mut bytes) {
         Ok(len) => println!(rt; "note of {len} bytes: {bytes:?}")?,
@@ -93,7 +84,7 @@ pub(crate) fn run_registers(rt: &HostRuntime) -> anyhow::Result<()> {
         Call::Uncrossing,
         Call::Indication,
     ];
-    play_both(rt, 30_000, &calls, &mut [BLANK; 1])?;
+    play_both(rt, &calls, &mut [UNWRITTEN; 1])?;
     let twice = [
         entry(Buy, 5, 10_000),
         entry(Buy, 2, 40_000),
@@ -106,7 +97,7 @@ pub(crate) fn run_registers(rt: &HostRuntime) -> anyhow::Result<()> {
             quantity: 1,
         },
     ];
-    play_both(rt, 30_000, &twice, &mut [BLANK; 4])
+    play_both(rt, &twice, &mut [UNWRITTEN; 4])
 }
 
 /// 128 buys of 2 contracts, of which the first has 1, and 128 sells of 2, of which the last has 1, make 255 trades.
@@ -121,11 +112,8 @@ pub(crate) fn run_crowd(rt: &HostRuntime) -> anyhow::Result<()> {
     calls.push(entry(Buy, 1, 10_000))?;
     calls.push(Call::Uncrossing)?;
     let mut book = Table::new(rt.alloc(), 256)?;
-    let Ok(session) = Session::open(10, 30_000) else {
-        return Ok(());
-    };
-    let mut register = [BLANK; 255];
-    let journal = run(rt.alloc(), &mut book, session, &calls, &mut register)?;
+    let mut register = [UNWRITTEN; 255];
+    let journal = run(rt.alloc(), &mut book, session(), &calls, &mut register)?;
     println!(rt; "trades {}", journal.trades.len())?;
     match book.rank(Buy, 1) {
         Some(_) => println!(rt; "a buy is left")?,

@@ -14,7 +14,7 @@ use trading::{Answer, Call};
 /// How many calls a list has.
 const CALLS: u32 = 30;
 /// A trade that no uncrossing writes, to see which places of a register stay.
-const UNWRITTEN: Trade = Trade {
+pub(crate) const UNWRITTEN: Trade = Trade {
     buy: 0,
     sell: 0,
     quantity: 0,
@@ -214,9 +214,7 @@ fn try_list(heap: Global, source: &mut Source) -> Result<Outcome, AllocError> {
 /// So many generated lists.
 pub(crate) fn try_lists(heap: Global, seed: u64, lists: u32) -> Result<Vec<Outcome>, AllocError> {
     let mut source = Source::new(seed);
-    let mut outcomes = Vec::new(heap);
-    for _ in 0..lists {
-        outcomes.push(try_list(heap, &mut source)?)?;
-    }
-    Ok(outcomes)
+    (0..lists)
+        .map(|_| try_list(heap, &mut source))
+        .try_collect(heap)
 }

@@ -16,38 +16,55 @@ const SEED: u64 = 18_112_026;
 /// How many lists of calls are generated.
 const LISTS: u32 = 2_000;
 
-/// Prints how many calls came to each kind of answer.
-fn show_answers(rt: &HostRuntime, answers: &[Result<Answer, u8>]) -> anyhow::Result<()> {
-    let entered = answers
-        .iter()
-        .filter(|answer| matches!(answer, Ok(Answer::Entered(_))));
-    println!(rt; "entered {}", entered.count())?;
-    let cut = answers.iter().filter(|answer| **answer == Ok(Answer::Cut));
-    println!(rt; "cut {}", cut.count())?;
-    let withdrawn = answers
-        .iter()
-        .filter(|answer| **answer == Ok(Answer::Withdrawn));
-    println!(rt; "withdrawn {}", withdrawn.count())?;
-    let indicated = answers
-        .iter()
-        .filter(|answer| matches!(answer, Ok(Answer::Indicated(_))));
-    println!(rt; "indicated {}", indicated.count())?;
-    let uncrossed = answers
-        .iter()
-        .filter(|answer| matches!(answer, Ok(Answer::Uncrossed { .. })));
-    println!(rt; "uncrossed {}", uncrossed.count())?;
+/// Prints of how many items a test holds.
+fn show_count<T, F: Fn(&T) -> bool>(
+    rt: &HostRuntime,
+    words: &str,
+    items: &[T],
+    counts: F,
+) -> anyhow::Result<()>
+    requires { F.IsAlwaysCallable counts }
+{
+    let count = items.iter().filter(|item| counts(item)).count();
+    println!(rt; "{words} {count}")?;
     Ok(())
 }
 
-/// Prints how many calls came to each refusal.
+/// Prints how many calls came to each kind of answer.
+fn show_answers(rt: &HostRuntime, answers: &[Result<Answer, u8>]) -> anyhow::Result<()> {
+    show_count(
+        rt,
+        "entered",
+        answers,
+        |answer| matches!(answer, Ok(Answer::Entered(_))),
+    )?;
+    show_count(rt, "cut", answers, |answer| *answer == Ok(Answer::Cut))?;
+    show_count(
+        rt,
+        "withdrawn",
+        answers,
+        |answer| *answer == Ok(Answer::Withdrawn),
+    )?;
+    show_count(
+        rt,
+        "indicated",
+        answers,
+        |answer| matches!(answer, Ok(Answer::Indicated(_))),
+    )?;
+    show_count(
+        rt,
+        "uncrossed",
+        answers,
+        |answer| matches!(answer, Ok(Answer::Uncrossed { .. })),
+    )
+}
+
+/// Prints how many calls came to each refusal that came.
 fn show_refusals(rt: &HostRuntime, answers: &[Result<Answer, u8>]) -> anyhow::Result<()> {
     for number in 0u8..=u8::MAX {
-        let count = answers
-            .iter()
-            .filter(|answer| **answer == Err(number))
-            .count();
-        if count > 0 {
-            println!(rt; "refused {number} {count}")?;
+        if answers.contains(&Err(number)) {
+            let words = format!(in rt.alloc(); "refused {number}")?;
+            show_count(rt, &words, answers, |answer| *answer == Err(number))?;
         }
     }
     Ok(())
@@ -59,11 +76,13 @@ fn show_outcomes(rt: &HostRuntime, outcomes: &[Outcome]) -> anyhow::Result<()> {
     show_answers(rt, &answers)?;
     println!(rt; "trades {}", traded(outcomes))?;
     show_refusals(rt, &answers)?;
-    let table_apart = outcomes.iter().filter(|outcome| outcome.table_apart);
-    println!(rt; "table differs {}", table_apart.count())?;
-    let ladder_apart = outcomes.iter().filter(|outcome| outcome.ladder_apart);
-    println!(rt; "ladder differs {}", ladder_apart.count())?;
-    Ok(())
+    show_count(rt, "table differs", outcomes, |outcome| outcome.table_apart)?;
+    show_count(
+        rt,
+        "ladder differs",
+        outcomes,
+        |outcome| outcome.ladder_apart,
+    )
 }
 
 fn run(rt: &HostRuntime) -> anyhow::Result<()> {

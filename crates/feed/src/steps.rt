@@ -14,7 +14,7 @@ use session::{MAX_TICK, Session};
 use trading::{Call, Refusal};
 
 /// What an accepted line asks for.
-// An opening has its name here: `None` in place of a call would not say what was accepted.
+// Named, since an `Option` of a pair would say neither what was accepted nor what stands beside the call.
 #[derive(Clone, Copy)]
 pub(crate) enum Step {
     /// The session is open.

@@ -51,6 +51,7 @@ impl OrderBook for Ladder {
     }
 
     fn find(&self, number: u32) -> Option<Live> {
+        // A `match`: with `or_else` it is out of the proof's reach what the closure, which is lent a run, answers.
         match find_in(&self.buys.run, number) {
             Some(live) => Some(live),
             None => find_in(&self.sells.run, number),

@@ -11,7 +11,7 @@ use ranking::settle_last;
 use std::alloc::{AllocError, Global};
 
 /// The orders of one side, in rank.
-// That the room stays is a fact of the run before and after, which no field can hold: each function that changes it says so.
+// How many orders there is room for is a fact of the ladder, which has the places: what changes the run says that the room stays.
 #[derive(Drop)]
 pub(crate) struct Queue<S: OneSide> {
     pub(crate) run: Vec<SideOrder<S>>,

@@ -39,9 +39,7 @@ impl<'a> NoteReader<'a> {
     fn number(&mut self, most: u32) -> Result<u32, NoteRefusal>
         ensures { Took (read_number (within most)) self.old self.new result }
     {
-        let Some((n, rest)) = leading_number(self.bytes) else {
-            return Err(NoteRefusal::BadNumber);
-        };
+        let (n, rest) = leading_number(self.bytes).ok_or(NoteRefusal::BadNumber)?;
         if !(1..=most).contains(&n) {
             return Err(NoteRefusal::OutOfRange);
         }

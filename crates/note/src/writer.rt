@@ -72,7 +72,8 @@ fn write_trades(place: &mut [u8], trades: &[Trade])
 ///
 /// Refused as out of range if the price, the count, or an order number or a quantity of these trades is, if a trade's two
 /// numbers are equal or if the register has fewer trades; then if the buffer is short. A refusal leaves the buffer as it was.
-// The count stands beside the register, which a caller keeps longer than its trades: a wrong count is judged and refused.
+// The count stands beside the register, which a caller keeps longer than its trades: a count that is wrong is refused, as the note's rules
+// say, and no slice of so many places could be taken.
 pub fn write_note(
     price: u32,
     count: usize,

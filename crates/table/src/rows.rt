@@ -11,7 +11,7 @@ use book::{BookRefusal, Live, cut_live, position};
 use std::alloc::{AllocError, Global};
 
 /// Rows in the order of entry, each with its count.
-// That the room stays is a fact of the run before and after, which no field can hold: each function that changes it says so.
+// How many rows there is room for is a fact of the table, which has the places: what changes the run says that the room stays.
 #[derive(Drop)]
 pub(crate) struct Rows {
     pub(crate) run: Vec<Row>,
