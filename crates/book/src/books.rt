@@ -38,6 +38,7 @@ pub trait OrderBook {
         ensures { seen result ≡ rank_of (meaning self.now) side k };
 
     /// What is bought and what is sold at a limit of `m` ticks.
+    // The two come as a pair, as the rules say it; the price makes `Quantities` of it at once, and nothing else keeps the pair.
     fn at_limit(&self, m: u32) -> (u32, u32)
         ensures bought { result.0 ≡ bought_at (meaning self.now) m }
         ensures sold { result.1 ≡ sold_at (meaning self.now) m };

@@ -84,6 +84,8 @@ impl PlainBook {
         Ok(price / tick)
     }
 
+    // A refusal is one of the answers, and want of memory is a failure: so one result stands within the other, and `?` hands on the
+    // failure. A refusal, which is handed on as an answer, is taken out by a `match`, here and at an uncrossing.
     pub fn entry(
         &mut self,
         side: Side,

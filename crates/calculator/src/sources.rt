@@ -1,5 +1,8 @@
 // Numbers that look random and are the same on every run.
-ghost use Rattle.std.specs.Prelude.{◌≡◌, ◌+◌, ◌*◌, ◌/◌, ◌%◌, ◌^◌, max};
+ghost use Rattle.std.specs.Prelude.{◌≡◌};
+ghost use Rattle.calculator.specs.Draws.{state_after, number_drawn, side_drawn};
+
+use book::Side;
 
 /// A linear congruential generator of 64 bits, whose high bits are used.
 #[derive(Drop)]
@@ -17,13 +20,24 @@ impl Source {
 
     /// The next number below `bound`, or 0 below 0.
     pub fn below(&mut self, bound: u32) -> u32
-        ensures state { self.new.state ≡ (self.old.state * 6364136223846793005 + 1442695040888963407) % 2 ^ 64 }
-        ensures value { result ≡ self.new.state / 2 ^ 33 % max bound 1 }
+        ensures state { self.new.state ≡ state_after self.old.state }
+        ensures value { result ≡ number_drawn bound self.new.state }
     {
         self.state = self
             .state
             .wrapping_mul(6_364_136_223_846_793_005)
             .wrapping_add(1_442_695_040_888_963_407);
         ((self.state >> 33) % u64::from(bound.max(1))) as u32
+    }
+
+    /// The next side: a buy where the next number below 2 is 0.
+    pub fn side(&mut self) -> Side
+        ensures state { self.new.state ≡ state_after self.old.state }
+        ensures value { result ≡ side_drawn self.new.state }
+    {
+        match self.below(2) {
+            0 => Side::Buy,
+            _ => Side::Sell,
+        }
     }
 }

@@ -35,6 +35,7 @@ fn play<B: OrderBook>(
 }
 
 /// Plays the calls on a table and on a ladder of 256 places, and prints what the order 2 holds then.
+// Each make is asked for by its own `new`, which wants other numbers; what is tried of it is one text.
 fn play_both(rt: &HostRuntime, calls: &[Call], register: &mut [Trade]) -> anyhow::Result<()> {
     let mut table = Table::new(rt.alloc(), 256)?;
     play(rt, &mut table, calls, register)?;

@@ -1,6 +1,6 @@
 // Generated lists of calls, on both makes and on the calculator.
 use crate::tallies::Outcome;
-use book::{Live, OrderBook, Side};
+use book::{Live, OrderBook};
 use calculator::{PlainBook, PlainOrder, PlainRefusal, PlainReply, Source};
 use engine::{Journal, run};
 use ladder::Ladder;
@@ -34,11 +34,7 @@ struct Expected {
 fn random_call(source: &mut Source) -> Call {
     match source.below(16) {
         0..=8 => Call::Entry {
-            side: if source.below(2) == 0 {
-                Side::Buy
-            } else {
-                Side::Sell
-            },
+            side: source.side(),
             quantity: source.below(6),
             price: if source.below(40) == 0 {
                 10_000_001
@@ -190,6 +186,8 @@ fn make_agrees<B: OrderBook>(
     )
 }
 
+/// One generated list, on both makes.
+// Each make is asked for by its own `new`, which wants other numbers; what is tried of it is one text.
 fn try_list(heap: Global, source: &mut Source) -> Result<Outcome, AllocError> {
     let tick = source.below(3) + 1;
     let scarcity = source.below(30) + 1;

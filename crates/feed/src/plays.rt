@@ -45,6 +45,7 @@ fn carry_out<B: OrderBook>(
 
 /// Plays a feed on a book, and answers each of its lines. Where there is no memory for the answers and trades, nothing is
 /// carried out.
+// Heap, book and register are lent each by itself, as the engine's `run` takes them: a struct of them would be taken apart at once.
 pub fn play<B: OrderBook>(
     heap: Global,
     book: &mut B,

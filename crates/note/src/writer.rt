@@ -16,6 +16,7 @@ fn are_legal(trades: &[Trade]) -> bool
 }
 
 /// Whether the price and the first `count` trades of the register make a note.
+// Price and count stay two numbers: nothing is known of either before this is asked, and afterwards they go different ways.
 fn is_writable(price: u32, count: usize, register: &[Trade]) -> bool
     ensures { result ≡ is_writable price count register.now }
 {

@@ -1,5 +1,5 @@
 // Generated books: both makes against the calculator.
-use book::{OrderBook, Side};
+use book::OrderBook;
 use calculator::{Ending, PlainOrder, Source, calculate, fill, order};
 use ladder::Ladder;
 use price::{Indication, indication};
@@ -28,12 +28,7 @@ pub(crate) struct Outcome {
 fn random_order(source: &mut Source) -> PlainOrder {
     let quantity = source.below(CONTRACTS) + 1;
     let limit = source.below(PRICES) + 1;
-    let side = if source.below(2) == 0 {
-        Side::Buy
-    } else {
-        Side::Sell
-    };
-    order(side, quantity, limit)
+    order(source.side(), quantity, limit)
 }
 
 fn random_orders(heap: Global, source: &mut Source) -> Result<Vec<PlainOrder>, AllocError> {
@@ -47,6 +42,7 @@ fn agrees<B: OrderBook>(book: &B, session: Session, told: Option<Indication>) ->
 }
 
 /// One generated book, on both makes.
+// Each make is asked for by its own `new`, which wants other numbers; what is tried of it is one text.
 fn try_book(heap: Global, source: &mut Source) -> Result<Outcome, AllocError> {
     let orders = random_orders(heap, source)?;
     let tick = source.below(3) + 1;

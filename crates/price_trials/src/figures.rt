@@ -29,6 +29,7 @@ fn answer<B: OrderBook>(
 }
 
 /// Prints what a table and a ladder of these orders answer.
+// Each make is asked for by its own `new`, which wants other numbers; what is tried of it is one text.
 fn show(rt: &HostRuntime, orders: &[PlainOrder], tick: u32, scarcity: u32) -> anyhow::Result<()> {
     let mut table = Table::new(rt.alloc(), 256)?;
     fill(&mut table, orders);
