@@ -9,7 +9,6 @@ use Rattle.trading.specs.declared.calls.Call.{Call}
 use Rattle.trading.specs.declared.answers.Answer.{Answer}
 use Rattle.trading.specs.declared.answers.Answer.TheVariants.{Entered, Cut, Withdrawn, Indicated, Uncrossed}
 use Rattle.trading.specs.declared.refusals.Refusal.{Refusal}
-use Rattle.trading.specs.declared.refusals.Refusal.{Refusal}
 use Rattle.trading.specs.Replies.{Reply, uncrossed, refused, trades_of, outcome, replies, after_all, written, register_after, log_of, read, read_all}
 use Rattle.trading.proofs.Following.{follows, lawful}
 use Rattle.rules.specs.Rivals.{Each}
@@ -155,6 +154,7 @@ going_ends tick scarcity m₀ xs₀ cs answers log m xs i r le h =
     record {
       law = lawful tick scarcity m₀ xs₀ cs (read_all log answers) m xs r replied ends (register ∙ ap (λ rs. register_after rs xs₀) (sym replied));
       logged = logged ∙ ap log_of (sym replied);
+      placed = h.placed;
     }
 
 -- one trade more in the log

@@ -17,8 +17,10 @@ use Rattle.feed.specs.declared.steps.Step.{Step}
 use Rattle.feed.specs.declared.steps.Step.TheVariants.{Opening}
 use Rattle.feed.specs.Steps.{Read, Terms, terms_of, number, terms_after, judged, all_judged, terms_after_all, calls_of}
 use Rattle.feed.specs.Scripts.{Scripted}
-use Rattle.feed.specs.Replies.{told_all, read_all}
-use Rattle.feed.specs.Playing.{CarriedOut, Plays, Silent}
+use Rattle.rules.specs.Rivals.{Each}
+use Rattle.engine.specs.Runs.{Within as AnswerWithin}
+use Rattle.feed.specs.Replies.{told_all, read_all, Within}
+use Rattle.feed.specs.Playing.{CarriedOut, Plays, Answered, Silent}
 use Rattle.feed.proofs.Lengths.{replies_length, read_length, judged_length, told_length}
 
 -- Without a session there is no call.
@@ -75,13 +77,13 @@ carried_length (Some t) m register cs rs m' register' h = ap length h.replies_ar
 -- The steps, the calls and the answers, each read through a slice.
 module _ (feed : List ℕ) (session : Option Session) (steps steps' : List (Result Step Fault)) (calls calls' : List Call) (m : Book) (register : List Trade) (answers answers' : List (Result Answer Refusal)) (log : List Trade) (m' : Book) (register' : List Trade)
     (es : steps' ≡ steps) (ec : calls' ≡ calls) (ea : answers' ≡ answers)
-    (s : Scripted feed session steps calls) (h : CarriedOut (terms_of session) m register calls' (replies_read log answers) m' register') where
+    (s : Scripted feed session steps calls) (h : CarriedOut (terms_of session) m register calls' (replies_read log answers) m' register') (placed : Each (AnswerWithin (length log)) answers) where
   pub each_answered : length answers' ≡ length (calls_of steps')
   each_answered =
       ap length ea ∙ sym (read_length log answers) ∙ carried_length (terms_of session) m register calls' (replies_read log answers) m' register' h
       ∙ ap length (ec ∙ s.calls_are) ∙ ap (λ ss. length (calls_of ss)) (sym (es ∙ s.steps_are))
 
-  pub plays : (replies : List (Result Done Fault)) → ((l : List Trade) → read_all l replies ≡ told_all steps' (replies_read l answers')) → Plays feed m register (read_all log replies) m' register'
+  plays : (replies : List (Result Done Fault)) → ((l : List Trade) → read_all l replies ≡ told_all steps' (replies_read l answers')) → Plays feed m register (read_all log replies) m' register'
   plays replies told =
       let rs = replies_read log answers in
       let ls = s.lines in
@@ -95,3 +97,7 @@ module _ (feed : List ℕ) (session : Option Session) (steps steps' : List (Resu
         answers = whole;
         count = ap length whole ∙ told_length (all_judged None 1 ls) rs answered ∙ judged_length None 1 ls;
       }
+
+  pub answered : (replies : List (Result Done Fault)) → ((l : List Trade) → read_all l replies ≡ told_all steps' (replies_read l answers')) → ((n : ℕ) → Each (AnswerWithin n) answers' → Each (Within n) replies)
+      → Answered feed m register log replies m' register'
+  answered replies told within = record { plays = plays replies told; placed = within (length log) (subst (Each (AnswerWithin (length log))) (sym ea) placed) }

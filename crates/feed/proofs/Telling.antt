@@ -14,42 +14,51 @@ use Rattle.feed.specs.declared.replies.Done.TheVariants.{Accepted}
 use Rattle.feed.specs.declared.steps.Step.{Step}
 use Rattle.feed.specs.declared.steps.Step.TheVariants.{Opening, Asking}
 use Rattle.feed.specs.Steps.{with_call, calls_of}
-use Rattle.feed.specs.Replies.{told_of, told_all, read, read_all, Left, AnswersOne}
+use Rattle.rules.specs.Rivals.{Each}
+use Rattle.engine.specs.Runs.{Within as AnswerWithin}
+use Rattle.feed.specs.Replies.{told_of, told_all, read, read_all, Within, Left, AnswersOne}
 
 read_all_snoc : (log : List Trade) (answers : List (Result Done Fault)) (a : Result Done Fault) → read_all log (answers ++ a ∷ []) ≡ read_all log answers ++ read log a ∷ []
 unfolding read_all
 read_all_snoc log [] a = refl
 read_all_snoc log (b ∷ answers) a = ap (λ rs. read log b ∷ rs) (read_all_snoc log answers a)
 
+each_snoc : (P : Result Done Fault → Type 0) (replies : List (Result Done Fault)) (r : Result Done Fault) → Each P replies → P r → Each P (replies ++ r ∷ [])
+each_snoc P [] r h p = (p, tt)
+each_snoc P (b ∷ replies) r h p = (h.0, each_snoc P replies r h.1 p)
+
 -- the replies so far, and what the lines that are left are told, are what all lines are told; each call that is left has its answer
 pub record Telling (ss : List (Result Step Fault)) (answers : List (Result Answer Refusal)) (replies : List (Result Done Fault)) (i : ℕ) (left : List (Result Answer Refusal)) : Type 0 where
   pub told : (log : List Trade) → read_all log replies ++ told_all (drop i ss) (replies_read log left) ≡ told_all ss (replies_read log answers)
   pub asked : length left ≡ length (calls_of (drop i ss))
+  pub placed : (n : ℕ) → Each (AnswerWithin n) answers → Each (Within n) replies × Each (AnswerWithin n) left
 
 pub tell_none : (ss : List (Result Step Fault)) (answers : List (Result Answer Refusal)) (replies : List (Result Done Fault)) (left : List (Result Answer Refusal)) → length answers ≡ length (calls_of ss) → replies ≡ [] → left ≡ answers → Telling ss answers replies 0 left
 unfolding read_all
 tell_none ss answers replies left e none whole = record {
   told = λ log. ap (λ rs. read_all log rs ++ told_all ss (replies_read log left)) none ∙ ap (λ as'. told_all ss (replies_read log as')) whole;
   asked = ap length whole ∙ e;
+  placed = λ n all. (subst (Each (Within n)) (sym none) tt, subst (Each (AnswerWithin n)) (sym whole) all);
 }
 
 -- one line: an opening, a fault, or a call with its answer
 
 pub one_opening : (s : Result Step Fault) (answers : List (Result Answer Refusal)) → s ≡ Ok Opening → AnswersOne s answers (Ok Accepted) answers
 unfolding told_all
-one_opening s answers e = subst (λ x. AnswersOne x answers (Ok Accepted) answers) (sym e) (record { head = λ log ss. refl; taken = omega arith; behind = refl })
+one_opening s answers e = subst (λ x. AnswersOne x answers (Ok Accepted) answers) (sym e) (record { head = λ log ss. refl; taken = omega arith; behind = refl; placed = λ n all. (tt, all) })
 
 pub one_fault : (s : Result Step Fault) (fault : Fault) (answers : List (Result Answer Refusal)) → s ≡ Err fault → AnswersOne s answers (Err fault) answers
 unfolding told_all
-one_fault s fault answers e = subst (λ x. AnswersOne x answers (Err fault) answers) (sym e) (record { head = λ log ss. refl; taken = omega arith; behind = refl })
+one_fault s fault answers e = subst (λ x. AnswersOne x answers (Err fault) answers) (sym e) (record { head = λ log ss. refl; taken = omega arith; behind = refl; placed = λ n all. (tt, all) })
 
 pub one_call : (s : Result Step Fault) (c : Call) (p : Places) (answers : List (Result Answer Refusal)) (a : Result Answer Refusal) (left : List (Result Answer Refusal)) (r : Result Done Fault) → s ≡ Ok (Asking c p) → answers ≡ a ∷ left
-    → ((log : List Trade) → read log r ≡ told_of p (reply_read log a)) → AnswersOne s answers r left
+    → ((log : List Trade) → read log r ≡ told_of p (reply_read log a)) → ((n : ℕ) → AnswerWithin n a → Within n r) → AnswersOne s answers r left
 unfolding told_all replies_read
-one_call s c p answers a left r e first reads = subst (λ x. AnswersOne x answers r left) (sym e) (subst (λ as'. AnswersOne (Ok (Asking c p)) as' r left) (sym first) (record {
+one_call s c p answers a left r e first reads placed = subst (λ x. AnswersOne x answers r left) (sym e) (subst (λ as'. AnswersOne (Ok (Asking c p)) as' r left) (sym first) (record {
   head = λ log ss. ap (λ x. x ∷ told_all ss (replies_read log left)) (sym (reads log));
   taken = omega arith;
   behind = refl;
+  placed = λ n all. (placed n all.0, all.1);
 }))
 
 counted : (s : Result Step Fault) (ss : List (Result Step Fault)) → length (calls_of (s ∷ ss)) ≡ length (with_call s []) + length (calls_of ss)
@@ -85,6 +94,10 @@ module _ (ss : List (Result Step Fault)) (answers : List (Result Answer Refusal)
             ∙ ap (λ x. read_all log replies ++ x) (sym (one.head log rest))
             ∙ subst (λ ds. read_all log replies ++ told_all ds (replies_read log left) ≡ told_all ss (replies_read log answers)) onward (h.told log);
         asked = omega (arith, subst (λ ds. length left ≡ length (calls_of ds)) onward h.asked, counted s rest, one.taken);
+        placed = λ n all.
+            let before = h.placed n all in
+            let here = one.placed n before.1 in
+            (subst (Each (Within n)) (sym e) (each_snoc (Within n) replies r before.0 here.0), here.1);
       }
 
 module _ (ss : List (Result Step Fault)) (answers : List (Result Answer Refusal)) (replies : List (Result Done Fault)) (i : ℕ) (left : List (Result Answer Refusal)) where

@@ -1,12 +1,15 @@
 -- What playing a feed promises. Assumes nothing.
-use Rattle.std.specs.Prelude.{◌≡◌, ℕ, List, [], length, Some, None, Option}
+use Rattle.std.specs.Prelude.{◌≡◌, ℕ, List, [], length, Some, None, Option, Result}
 use Rattle.note.specs.declared.trades.Trade.{Trade}
 use Rattle.book.specs.Meaning.{Book}
 use Rattle.trading.specs.declared.calls.Call.{Call}
 use Rattle.trading.specs.Replies.{Reply}
 use Rattle.trading.specs.Law.{Law}
 use Rattle.feed.specs.Steps.{Read, Reads, Terms, all_judged, terms_after_all, calls_of}
-use Rattle.feed.specs.Replies.{Told, told_all}
+use Rattle.feed.specs.declared.faults.Fault.{Fault}
+use Rattle.feed.specs.declared.replies.Done.{Done}
+use Rattle.feed.specs.Replies.{Told, told_all, read_all, Within}
+use Rattle.rules.specs.Rivals.{Each}
 
 -- the calls of a feed obey the law in its session; without a session there is no call, and nothing changes
 abbrev pub CarriedOut : Option Terms → Book → List Trade → List Call → List Reply → Book → List Trade → Type 0
@@ -24,6 +27,11 @@ pub record Plays (feed : List ℕ) (m : Book) (register : List Trade) (told : Li
   -- each line's answer is that of the rules, and no line is left out
   pub answers : told ≡ told_all (all_judged None 1 lines) replies
   pub count : length told ≡ length lines
+
+-- What is answered, as it is read in the log: it is told by the rules, and each answer's trades stand in the log.
+pub record Answered (feed : List ℕ) (m : Book) (register : List Trade) (log : List Trade) (replies : List (Result Done Fault)) (m' : Book) (register' : List Trade) : Type 0 where
+  pub plays : Plays feed m register (read_all log replies) m' register'
+  pub placed : Each (Within (length log)) replies
 
 -- nothing was carried out
 pub record Unplayed (m : Book) (register : List Trade) (m' : Book) (register' : List Trade) : Type 0 where

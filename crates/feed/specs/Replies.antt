@@ -1,5 +1,5 @@
 -- What each line is answered. Assumes nothing.
-use Rattle.std.specs.Prelude.{◌≡◌, ℕ, ◌+◌, ◌<◌, List, [], ◌∷◌, length, take, drop, Ok, Err, Result}
+use Rattle.std.specs.Prelude.{◌≡◌, ℕ, ◌+◌, ◌<◌, ◌≤◌, List, [], ◌∷◌, length, take, drop, Ok, Err, Result}
 use Rattle.note.specs.declared.trades.Trade.{Trade}
 use Rattle.price.specs.declared.indications.Indication.{Indication}
 use Rattle.trading.specs.Replies.{Reply, entered, was_cut, withdrawn, indicated, uncrossed, refused, read_all as replies_read}
@@ -14,6 +14,8 @@ use Rattle.feed.specs.declared.steps.Step.{Step}
 use Rattle.feed.specs.declared.steps.Step.TheVariants.{Opening, Asking}
 use Rattle.feed.specs.Places.{refused_at}
 use Rattle.feed.specs.Steps.{with_call}
+use Rattle.engine.specs.Runs.{Within as AnswerWithin}
+use Rattle.rules.specs.Rivals.{Each}
 
 -- what a line is answered
 pub data Told : Type 0 where
@@ -58,6 +60,13 @@ unfoldable pub read_all : List Trade → List (Result Done Fault) → List Told
 read_all log [] = []
 read_all log (a ∷ answers) = read log a ∷ read_all log answers
 
+-- an answer's trades stand within the first n of the log
+abbrev pub Within : ℕ → Result Done Fault → Type 0
+Within n (Ok Accepted) = Unit {0}
+Within n (Ok (Entered number)) = Unit {0}
+Within n (Ok (Uncrossed told first count)) = first + count ≤ n
+Within n (Err fault) = Unit {0}
+
 -- What one line's answer promises the next; no caller needs it.
 
 -- a call has its answer among those that are left
@@ -71,3 +80,4 @@ pub record AnswersOne (s : Result Step Fault) (answers : List (Result Answer Ref
   pub head : (log : List Trade) (ss : List (Result Step Fault)) → told_all (s ∷ ss) (replies_read log answers) ≡ read log r ∷ told_all ss (replies_read log left)
   pub taken : length answers ≡ length (with_call s []) + length left
   pub behind : left ≡ drop (length (with_call s [])) answers
+  pub placed : (n : ℕ) → Each (AnswerWithin n) answers → Within n r × Each (AnswerWithin n) left

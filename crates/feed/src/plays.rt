@@ -1,9 +1,10 @@
 // A feed played on a book.
-ghost use Rattle.std.specs.Prelude.{◌≡◌, MatchResult};
+ghost use Rattle.std.specs.Prelude.{◌≡◌, length, MatchResult};
 ghost use Rattle.trading.specs.Replies.{read_all as replies_read};
 ghost use Rattle.feed.specs.Steps.{terms_of};
-ghost use Rattle.feed.specs.Replies.{read_all};
-ghost use Rattle.feed.specs.Playing.{Plays, CarriedOut, Unplayed, Silent};
+ghost use Rattle.rules.specs.Rivals.{Each};
+ghost use Rattle.engine.specs.Runs.{Within};
+ghost use Rattle.feed.specs.Playing.{Answered, CarriedOut, Unplayed, Silent};
 
 use crate::faults::Fault;
 use crate::replies::{Done, answer_lines};
@@ -32,7 +33,7 @@ fn carry_out<B: OrderBook>(
     register: &mut [Trade],
 ) -> Result<Journal, AllocError>
     requires { Silent (terms_of session) calls.now }
-    ensures { MatchResult result (λ journal. CarriedOut (terms_of session) (B.meaning book.old) register.old calls.now (replies_read journal.trades.items journal.answers.items) (B.meaning book.new) register.new) (λ _. Unplayed (B.meaning book.old) register.old (B.meaning book.new) register.new) }
+    ensures { MatchResult result (λ journal. CarriedOut (terms_of session) (B.meaning book.old) register.old calls.now (replies_read journal.trades.items journal.answers.items) (B.meaning book.new) register.new × Each (Within (length journal.trades.items)) journal.answers.items) (λ _. Unplayed (B.meaning book.old) register.old (B.meaning book.new) register.new) }
 {
     match session {
         Some(session) => run(heap, book, session, calls, register),
@@ -52,7 +53,7 @@ pub fn play<B: OrderBook>(
     feed: &[u8],
     register: &mut [Trade],
 ) -> Result<Played, AllocError>
-    ensures { MatchResult result (λ played. Plays feed.now (B.meaning book.old) register.old (read_all played.trades.items played.replies.items) (B.meaning book.new) register.new) (λ _. Unplayed (B.meaning book.old) register.old (B.meaning book.new) register.new) }
+    ensures { MatchResult result (λ played. Answered feed.now (B.meaning book.old) register.old played.trades.items played.replies.items (B.meaning book.new) register.new) (λ _. Unplayed (B.meaning book.old) register.old (B.meaning book.new) register.new) }
 {
     let script = read_script(heap, feed)?;
     let mut replies = Vec::with_capacity(heap, script.steps.len())?;

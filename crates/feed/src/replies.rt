@@ -1,10 +1,12 @@
 // What each line is answered.
-ghost use Rattle.std.specs.Prelude.{◌≡◌, ◌≤◌, List, [], length, vec_capacity};
+ghost use Rattle.std.specs.Prelude.{◌≡◌, ◌≤◌, ℕ, List, [], length, vec_capacity};
 ghost use Rattle.std.specs.Slice.Iter.{iter_rest};
 ghost use Rattle.note.specs.declared.trades.Trade.{Trade};
 ghost use Rattle.trading.specs.Replies.{read as reply_read, read_all as replies_read};
+ghost use Rattle.rules.specs.Rivals.{Each};
+ghost use Rattle.engine.specs.Runs.{Within as AnswerWithin};
 ghost use Rattle.feed.specs.Steps.{calls_of};
-ghost use Rattle.feed.specs.Replies.{done_of, told_of, told_all, read, read_all, Left, AnswersOne};
+ghost use Rattle.feed.specs.Replies.{done_of, told_of, told_all, read, read_all, Within, Left, AnswersOne};
 
 use crate::faults::Fault;
 use crate::places::Places;
@@ -45,7 +47,8 @@ fn done_for(answer: Answer) -> Done
 
 /// The answer to a line of which the call was answered.
 fn answered(places: Places, answer: Result<Answer, Refusal>) -> Result<Done, Fault>
-    ensures { (log : List Trade) → read log result ≡ told_of places (reply_read log answer) }
+    ensures told { (log : List Trade) → read log result ≡ told_of places (reply_read log answer) }
+    ensures placed { (n : ℕ) → AnswerWithin n answer → Within n result }
 {
     answer.map(done_for).map_err(|why| places.refused(why))
 }
@@ -80,7 +83,8 @@ pub(crate) fn answer_lines(
     requires asked { length answers.now ≡ length (calls_of steps.now) }
     requires empty { replies.old.items ≡ [] }
     requires room { length steps.now ≤ vec_capacity replies.old }
-    ensures { (log : List Trade) → read_all log replies.new.items ≡ told_all steps.now (replies_read log answers.now) }
+    ensures told { (log : List Trade) → read_all log replies.new.items ≡ told_all steps.now (replies_read log answers.now) }
+    ensures placed { (n : ℕ) → Each (AnswerWithin n) answers.now → Each (Within n) replies.new.items }
 {
     let mut left = answers.iter();
     for step in steps {

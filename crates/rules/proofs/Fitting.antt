@@ -129,7 +129,7 @@ fills_open : (s : Side) (v : ℕ) (os : List Order) → Apart number_of os → E
 fills_open s v os a =
     fills_each _ v (ranked s os) (each_as _ _ (λ o h q more le. record { order = o; found = h.0; side = h.1; enough = le }) (ranked s os) (found_ranked s os a))
 
-apart_ranked : (s : Side) (os : List Order) → Apart number_of os → Apart number_of (ranked s os)
+pub apart_ranked : (s : Side) (os : List Order) → Apart number_of os → Apart number_of (ranked s os)
 apart_ranked s os a = apart_shuffle number_of (back (shuffle_sorted (before s) (of_side s os))) (side_apart s os a)
 
 fills_apart : (v : ℕ) (os : List Order) → Apart number_of os → ApartFills (fills v os)
@@ -144,7 +144,7 @@ fills_price s m v os a le =
     fills_take _ s m v (ranked s os) (firsts_ranked s m os) (omega arith)
     (each_as _ _ (λ o h limit q more le. record { order = o; live = h.2; number = refl; side = h.1; limit = limit }) (ranked s os) (found_ranked s os a))
 
-fills_all : (s : Side) (m v : ℕ) (os : List Order) → v ≤ quantity_at s m os → fill_total (fills v (ranked s os)) ≡ v
+pub fills_all : (s : Side) (m v : ℕ) (os : List Order) → v ≤ quantity_at s m os → fill_total (fills v (ranked s os)) ≡ v
 fills_all s m v os le = omega (arith, taken_ranked s m os, taken_le s m (ranked s os), fills_total v (ranked s os))
 
 fills_some : (v : ℕ) (os : List Order) → Each (λ f. 0 < f.quantity) (fills v os)
@@ -156,10 +156,10 @@ fills_some v os = fills_each _ v os (go os)
 
 -- No order trades more than it holds.
 
-abbrev own : ℕ → Order → ℕ
+abbrev pub own : ℕ → Order → ℕ
 own n o = if_same o.number n o.quantity
 
-other_weigh : (n : ℕ) (os : List Order) → Other number_of n os → weigh (own n) os ≡ 0
+pub other_weigh : (n : ℕ) (os : List Order) → Other number_of n os → weigh (own n) os ≡ 0
 unfolding weigh
 other_weigh n [] o = refl
 other_weigh n (p ∷ os) o = let z = cond-false (eqb p.number n) p.quantity 0 (ne_eqb _ _ o.0) in omega (arith, other_weigh n os o.1)
@@ -182,7 +182,7 @@ or_le : (a b : Bool) (q : ℕ) → cond (a || b) q 0 ≤ cond a q 0 + cond b q 0
 or_le true b q = omega arith
 or_le false b q = omega arith
 
-traded_both : (n : ℕ) (ts : List Trade) → traded ts n ≤ traded_of Buy n ts + traded_of Sell n ts
+pub traded_both : (n : ℕ) (ts : List Trade) → traded ts n ≤ traded_of Buy n ts + traded_of Sell n ts
 unfolding traded traded_of
 traded_both n [] = omega arith
 traded_both n (t ∷ ts) = omega (arith, or_le (eqb t.buy n) (eqb t.sell n) t.quantity, traded_both n ts)

@@ -5,6 +5,7 @@ pub mod Decisions
 pub mod Fitting
 pub mod Keeping
 pub mod Laying
+pub mod Turning
 mod Letters
 mod Lists
 pub mod Pairing

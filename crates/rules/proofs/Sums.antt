@@ -26,7 +26,7 @@ pub each_all : {X : Type 0} (P : X → Type 0) → ((x : X) → P x) → (xs : L
 each_all P h [] = tt
 each_all P h (x ∷ xs) = (h x, each_all P h xs)
 
-each_shuffle : {X : Type 0} (P : X → Type 0) {xs ys : List X} → Shuffle xs ys → Each P xs → Each P ys
+pub each_shuffle : {X : Type 0} (P : X → Type 0) {xs ys : List X} → Shuffle xs ys → Each P xs → Each P ys
 each_shuffle P none e = e
 each_shuffle P (keep s) e = (e.0, each_shuffle P s e.1)
 each_shuffle P swap e = (e.1.0, (e.0, e.1.1))
@@ -120,7 +120,7 @@ abbrev pub Firsts : Side → ℕ → List Order → Type 0
 Firsts s m [] = Unit {0}
 Firsts s m (o ∷ os) = (meets s m o.limit ≡ false → Each (λ p. meets s m p.limit ≡ false) os) × Firsts s m os
 
-none_each : (s : Side) (o : Order) (os : List Order) → none_before (before s) o os ≡ true → Each (λ p. before s p o ≡ false) os
+pub none_each : (s : Side) (o : Order) (os : List Order) → none_before (before s) o os ≡ true → Each (λ p. before s p o ≡ false) os
 none_each s o [] h = tt
 none_each s o (p ∷ os) h =
     let both = and_parts (not (before s p o)) (none_before (before s) o os) (sym (none_cons (before s) o p os) ∙ h) in

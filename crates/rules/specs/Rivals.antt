@@ -1,9 +1,10 @@
 -- What fills are, a rival's or the auction's own. Assumes nothing.
-use Rattle.std.specs.Prelude.{◌≡◌, ℕ, ◌+◌, ◌≤◌, true, cond, ◌||◌, ◌⊎◌, List, [], ◌∷◌, ◌==◌}
+use Rattle.std.specs.Prelude.{◌≡◌, ℕ, ◌+◌, ◌<◌, ◌≤◌, true, cond, ◌||◌, ◌⊎◌, List, [], ◌∷◌, ◌==◌}
 use Rattle.note.specs.declared.trades.Trade.{Trade}
 use Rattle.book.specs.declared.orders.Side.{Side}
 use Rattle.book.specs.declared.orders.Side.TheVariants.{Buy, Sell}
 use Rattle.book.specs.Meaning.{Order, meets}
+use Rattle.book.specs.Ranks.{before}
 use Rattle.rules.specs.Schedule.{Schedule, Admissible}
 
 -- an order is one of the live ones
@@ -40,6 +41,11 @@ pub record Fills (os : List Order) (m : ℕ) (ts : List Trade) : Type 0 where
   pub buys : Each (λ t. LiveAt Buy os m t.buy) ts
   pub sells : Each (λ t. LiveAt Sell os m t.sell) ts
   pub within : (o : Order) → In o os → traded ts o.number ≤ o.quantity
+
+-- A side is filled in rank: where an order trades, each order of its side that goes before it trades all that it holds.
+abbrev pub InRank : Side → List Order → List Trade → Type 0
+InRank s os ts =
+    (x y : Order) → In x os → In y os → x.side ≡ s → y.side ≡ s → before s x y ≡ true → 0 < traded ts y.number → traded ts x.number ≡ x.quantity
 
 -- all fills of the orders at any admissible price total at most so much
 abbrev pub NoRivalAbove : List Order → Schedule → ℕ → Type 0

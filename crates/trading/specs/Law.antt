@@ -1,12 +1,12 @@
 -- The law over every list of calls: each uncrossing is best, and on each side what is entered is accounted for. Assumes nothing.
-use Rattle.std.specs.Prelude.{◌≡◌, ℕ, ◌+◌, ◌-◌, ◌*◌, cond, List, [], ◌∷◌, length, Some, None, Option, ◌==◌}
+use Rattle.std.specs.Prelude.{◌≡◌, ℕ, ◌+◌, ◌-◌, ◌*◌, ◌<◌, cond, List, [], ◌∷◌, length, Some, None, Option, ◌==◌}
 use Rattle.note.specs.declared.trades.Trade.{Trade}
 use Rattle.session.specs.declared.refusals.SessionRefusal.{SessionRefusal}
 use Rattle.session.specs.declared.refusals.SessionRefusal.TheVariants.{SessionRange, QuantityRange, Price, NoVolume, RegisterShort}
 use Rattle.book.specs.declared.orders.Side.{Side}
 use Rattle.book.specs.Meaning.{Order, Book}
 use Rattle.rules.specs.Schedule.{Admissible, offered}
-use Rattle.rules.specs.Rivals.{Each, Fills, NoRivalAbove, total, traded}
+use Rattle.rules.specs.Rivals.{Each, Fills, InRank, NoRivalAbove, total, traded}
 use Rattle.rules.specs.Trades.{counted, resting}
 use Rattle.price.specs.declared.indications.Indication.{Indication}
 use Rattle.price.specs.Indications.{Priced}
@@ -18,14 +18,15 @@ use Rattle.trading.specs.Replies.{Reply, entered, was_cut, withdrawn, indicated,
 
 -- Uncrossings.
 
--- An accepted uncrossing of the book b: its trades are fills at its price, which is admissible, and total its volume; no rival's
--- fills total more.
+-- An accepted uncrossing of the book b: its trades are fills at its price, which is admissible, and total its volume, each side
+-- filled in rank; no rival's fills total more.
 pub record Filled (b : Book) (tick scarcity : ℕ) (told : Indication) (ts : List Trade) : Type 0 where
   pub ticks : ℕ
   pub price_is : told.price ≡ ticks * tick
   pub admissible : Admissible (offered b tick scarcity) ticks
   pub fills : Fills b.orders ticks ts
   pub sum : total ts ≡ told.volume
+  pub in_rank : (s : Side) → InRank s b.orders ts
   pub unrivalled : NoRivalAbove b.orders (offered b tick scarcity) told.volume
 
 -- one that is refused because nothing trades: every rival's fills total 0
@@ -57,6 +58,26 @@ RightlyPriced tick scarcity b withdrawn = Unit {0}
 RightlyPriced tick scarcity b (indicated told) = Unit {0}
 RightlyPriced tick scarcity b (uncrossed told ts) = Priced b tick scarcity told
 RightlyPriced tick scarcity b (refused why) = Unit {0}
+
+-- An uncrossing makes fewer trades than there are live orders, and its register is short only if it has not even so many places.
+abbrev pub ShortFor : ℕ → Book → SessionRefusal → Type 0
+ShortFor places b SessionRange = Unit {0}
+ShortFor places b QuantityRange = Unit {0}
+ShortFor places b (Price cause) = Unit {0}
+ShortFor places b NoVolume = Unit {0}
+ShortFor places b RegisterShort = places + 1 < length b.orders
+
+abbrev pub Short : ℕ → Book → Refusal → Type 0
+Short places b (OfBook why) = Unit {0}
+Short places b (OfSession why) = ShortFor places b why
+
+abbrev pub FewTrades : ℕ → Book → Reply → Type 0
+FewTrades places b (entered n) = Unit {0}
+FewTrades places b was_cut = Unit {0}
+FewTrades places b withdrawn = Unit {0}
+FewTrades places b (indicated told) = Unit {0}
+FewTrades places b (uncrossed told ts) = length ts < length b.orders
+FewTrades places b (refused why) = Short places b why
 
 -- something is so of each reply, in the book just before its call
 abbrev pub Throughout : (Book → Reply → Type 0) → ℕ → ℕ → ℕ → Book → List Call → List Reply → Type 0
@@ -207,5 +228,7 @@ pub record Law (tick scarcity : ℕ) (m : Book) (register : List Trade) (cs : Li
   pub unrivalled : Throughout (Unrivalled tick scarcity) tick scarcity (length register) m cs rs
   -- at the price of the rule
   pub priced : Throughout (RightlyPriced tick scarcity) tick scarcity (length register) m cs rs
+  -- in fewer trades than there are live orders
+  pub few : Throughout (FewTrades (length register)) tick scarcity (length register) m cs rs
   -- from a fresh book, contracts entered are cut, withdrawn, traded or still resting
   pub conserved : Fresh m → Conserved cs rs m'.orders

@@ -7,7 +7,7 @@ pub returns-in-Opening : goal.returns-in-Opening
 returns-in-Opening c = one_opening _ _ (c.in_ok-step.was ∙ ap Ok c.in-Opening.is)
 
 pub returns-in-Some : goal.returns-in-Some
-returns-in-Some c = one_call _ c.in-Asking.call c.in-Asking.places _ _ _ _ (c.in_ok-step.was ∙ ap Ok c.in-Asking.is) c.in-Some.ensures.steps c.answered.ensures
+returns-in-Some c = one_call _ c.in-Asking.call c.in-Asking.places _ _ _ _ (c.in_ok-step.was ∙ ap Ok c.in-Asking.is) c.in-Some.ensures.steps c.answered.ensures.told c.answered.ensures.placed
 
 pub returns-in_err-step : goal.returns-in_err-step
 returns-in_err-step c =

@@ -11,3 +11,6 @@ loop-step-preserved c = (
   omega (arith, c.push_reserved.ensures.len, c.loop-step.invariant.1),
   omega (arith, c.push_reserved.ensures.capacity, c.loop-step.invariant.2),
 )
+
+pub returns-clause-placed : goal.returns-clause-placed
+returns-clause-placed c = λ n all. (c.loop-step.invariant.0.placed n all).0
