@@ -70,9 +70,13 @@ number_after places last live = result_unwrap_or (number_answer places last live
 unfoldable pub enter_answer : Book → Result ℕ BookRefusal
 enter_answer m = number_answer m.places m.last (length m.orders)
 
--- the body gets the last number plus 1 and stands at the end
+-- an order gets the last number plus 1 and stands at the end
+abbrev pub with_order : Book → Side → ℕ → ℕ → Book
+with_order m side limit quantity =
+    record { places = m.places; last = m.last + 1; orders = m.orders ++ record { number = m.last + 1; side = side; limit = limit; quantity = quantity } ∷ [] }
+
 abbrev pub entered : Book → Body → Book
-entered m body = record { places = m.places; last = m.last + 1; orders = m.orders ++ under (m.last + 1) body ∷ [] }
+entered m body = with_order m body.side body.limit body.quantity
 
 unfoldable pub enter_after : Book → Body → Book
 enter_after m body = unless_refused (enter_answer m) (entered m body) m

@@ -1,10 +1,10 @@
 -- The ranking of a side's orders. Assumes nothing.
-use Rattle.std.specs.Prelude.{ℕ, zero, suc, Bool, cond, ◌&&◌, ◌||◌, List, [], ◌∷◌, None, Option, ◌==◌, nat_lt}
+use Rattle.std.specs.Prelude.{◌≡◌, ℕ, zero, suc, ◌+◌, ◌<◌, Bool, cond, ◌&&◌, ◌||◌, ◌⊎◌, List, [], ◌∷◌, length, None, Some, Option, ◌==◌, nat_lt}
 use Rattle.std.specs.List.{slice_get}
 use Rattle.ranking.specs.Runs.{sorted}
 use Rattle.book.specs.declared.orders.Side.{Side}
 use Rattle.book.specs.declared.orders.Side.TheVariants.{Buy, Sell}
-use Rattle.book.specs.Meaning.{Order, Book, is_side}
+use Rattle.book.specs.Meaning.{Order, Book, is_side, found}
 
 -- a better limit: higher for a buy, lower for a sell
 abbrev pub better : Side → ℕ → ℕ → Bool
@@ -35,3 +35,18 @@ at_place xs (suc k) = slice_get xs k
 
 abbrev pub rank_of : Book → Side → ℕ → Option Order
 rank_of m s k = at_place (ranked s m.orders) k
+
+-- x is of y's side and goes before it
+abbrev pub ahead : Order → Order → Bool
+ahead x y = is_side y.side x.side && before y.side x y
+
+-- how many of the orders are, and do
+unfoldable pub counted : List Order → Order → ℕ
+counted [] y = 0
+counted (x ∷ xs) y = cond (ahead x y) 1 0 + counted xs y
+
+-- The order at place k of a side is live, of the side, and k - 1 orders of the side go before it; where there is none, k is 0 or past the
+-- side's last.
+abbrev pub StandsAt : Book → Side → ℕ → Option Order → Type 0
+StandsAt m s k None = (k ≡ 0) ⊎ (length (of_side s m.orders) < k)
+StandsAt m s k (Some o) = (found m o.number ≡ Some o) × (o.side ≡ s) × (counted m.orders o + 1 ≡ k)

@@ -1,7 +1,7 @@
 // What every make of book does, as equations over what a book means.
 ghost use Rattle.std.specs.Prelude.{◌≡◌};
 ghost use Rattle.book.specs.Meaning.{Book, Sound, seen, enter_answer, enter_after, found, cut_answer, cut_after, bought_at, sold_at};
-ghost use Rattle.book.specs.Ranks.{rank_of};
+ghost use Rattle.book.specs.Ranks.{rank_of, StandsAt};
 
 use crate::orders::{Body, Live, Side};
 use crate::refusals::BookRefusal;
@@ -35,7 +35,8 @@ pub trait OrderBook {
 
     /// The order at place `k` of a side, counted from 1.
     fn rank(&self, side: Side, k: usize) -> Option<Live>
-        ensures { seen result ≡ rank_of (meaning self.now) side k };
+        ensures value { seen result ≡ rank_of (meaning self.now) side k }
+        ensures place { StandsAt (meaning self.now) side k (seen result) };
 
     /// What is bought and what is sold at a limit of `m` ticks.
     // The two come as a pair, as the rules say it; the price makes `Quantities` of it at once, and nothing else keeps the pair.

@@ -1,6 +1,6 @@
 -- A book filled with plain orders. Assumes nothing.
-use Rattle.std.specs.Prelude.{◌+◌, cond, List, [], ◌∷◌, ◌++◌}
-use Rattle.book.specs.Meaning.{Book, enter_answer, unless_refused}
+use Rattle.std.specs.Prelude.{cond, List, [], ◌∷◌}
+use Rattle.book.specs.Meaning.{Book, enter_answer, with_order, unless_refused}
 use Rattle.book.specs.Ranges.{in_range}
 use Rattle.calculator.specs.declared.plain.PlainOrder.{PlainOrder}
 
@@ -8,7 +8,7 @@ use Rattle.calculator.specs.declared.plain.PlainOrder.{PlainOrder}
 abbrev pub with_plain : Book → PlainOrder → Book
 with_plain m o =
     cond (in_range o.limit o.quantity)
-    (unless_refused (enter_answer m) (record { places = m.places; last = m.last + 1; orders = m.orders ++ record { number = m.last + 1; side = o.side; limit = o.limit; quantity = o.quantity } ∷ [] }) m)
+    (unless_refused (enter_answer m) (with_order m o.side o.limit o.quantity) m)
     m
 
 -- the orders in turn

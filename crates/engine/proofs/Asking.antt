@@ -12,10 +12,10 @@ use Rattle.book.specs.declared.orders.Body.{Body}
 use Rattle.book.specs.declared.orders.Side.{Side}
 use Rattle.book.specs.declared.refusals.BookRefusal.{BookRefusal}
 use Rattle.book.specs.declared.refusals.BookRefusal.TheVariants.{UnknownOrder}
-use Rattle.book.specs.Meaning.{Book, Order, unless_refused, enter_answer, enter_after, entered as with_body, found, cut, cut_answer, cut_after, cut_judged}
+use Rattle.book.specs.Meaning.{Book, Order, unless_refused, enter_answer, enter_after, entered as with_body, found, cut, cut_answer, cut_after, cut_judged, with_order}
 use Rattle.trading.specs.declared.calls.Call.TheVariants.{Entry, Cut, Withdrawal}
 use Rattle.trading.specs.declared.refusals.Refusal.TheVariants.{Book as OfBook, Session as OfSession}
-use Rattle.trading.specs.Replies.{Reply, entered, was_cut, withdrawn, refused, Outcome, price_limit, entry_limit, with_order, entry_by_book, entry_by_session, cut_by_book, withdrawal_of, outcome}
+use Rattle.trading.specs.Replies.{Reply, entered, was_cut, withdrawn, refused, Outcome, price_limit, entry_limit, entry_by_book, entry_by_session, cut_by_book, withdrawal_of, outcome}
 
 -- a call was answered, and left the book, as an outcome says
 pub record Told (o : Outcome) (reply : Reply) (m' : Book) : Type 0 where

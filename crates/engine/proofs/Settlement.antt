@@ -16,11 +16,10 @@ use Rattle.rules.specs.Trades.{trades_at, settle, after_trades}
 use Rattle.rules.specs.Holding.{Holds, Cuttable}
 use Rattle.rules.proofs.Fitting.{second_holds, trades_stand}
 use Rattle.price.specs.declared.indications.Indication.{Indication}
-use Rattle.price.specs.Indications.{indication_answer, told}
+use Rattle.price.specs.Indications.{heading, indication_answer, told}
 use Rattle.trading.specs.declared.calls.Call.TheVariants.{Uncrossing}
 use Rattle.trading.specs.declared.refusals.Refusal.TheVariants.{Session as OfSession}
-use Rattle.trading.specs.Replies.{Reply, uncrossed, refused, Outcome, refusal, heading, crossing_of, uncrossing_at, outcome, trades_of, written}
-use Rattle.engine.specs.Settling.{settled}
+use Rattle.trading.specs.Replies.{Reply, uncrossed, refused, Outcome, refusal, settled, crossing_of, uncrossing_at, outcome, trades_of, written}
 
 get_d_default : (ts : List Trade) (i : ℕ) (d e : Trade) → i < length ts → get_or ts i d ≡ get_or ts i e
 get_d_default [] i d e lt = absurd (omega arith)

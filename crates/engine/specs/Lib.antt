@@ -1,4 +1,3 @@
 pub mod Messages
 pub mod Pairings
 pub mod Runs
-pub mod Settling

@@ -1,10 +1,9 @@
 // Uncrossing any book: the trades are counted, the register is judged, then they are written, then cut.
 ghost use Rattle.std.specs.Prelude.{◌≡◌, ◌-◌, ◌≤◌, length, IfOk};
 ghost use Rattle.rules.specs.Holding.{Cuttable};
-ghost use Rattle.trading.specs.Replies.{outcome, trades_of, written};
+ghost use Rattle.trading.specs.Replies.{settled, outcome, trades_of, written};
 ghost use Rattle.trading.specs.declared.calls.Call.TheVariants.{Uncrossing as AskUncrossing};
 ghost use Rattle.engine.specs.Messages.{uncrossing_reply};
-ghost use Rattle.engine.specs.Settling.{settled};
 
 use crate::pairing::{count_trades, write_trades};
 use crate::uncrossed::Uncrossed;

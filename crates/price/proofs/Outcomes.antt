@@ -7,7 +7,7 @@ use Rattle.rules.specs.Schedule.{offered}
 use Rattle.rules.specs.Literal.{equilibrium}
 use Rattle.rules.specs.Prices.{Answered}
 use Rattle.rules.proofs.Choices.{chosen_one, chosen_kept, equilibrium_words, unrivalled, no_rival, sign_change}
-use Rattle.rules.proofs.Curves.{monotone, in_money}
+use Rattle.rules.proofs.Curves.{monotone, means_in_money, in_money}
 use Rattle.rules.proofs.Signs.{signed}
 use Rattle.price.specs.declared.indications.Indication.{Indication}
 use Rattle.price.specs.Indications.{told, indication_answer, Best, Outcome, Indicated}
@@ -32,6 +32,7 @@ module _ (b : Book) (tick scarcity : ℕ) where
       record {
         outcome = outcome (equilibrium (offered b tick scarcity)) (equilibrium_words (offered b tick scarcity));
         in_money = in_money b.orders tick scarcity some;
+        means = means_in_money tick some;
         sign_change = sign_change (offered b tick scarcity) (monotone b.orders (ceiling tick scarcity));
       }
 

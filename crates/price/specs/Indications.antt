@@ -3,17 +3,21 @@ use Rattle.std.specs.Prelude.{◌≡◌, ℕ, ◌*◌, Some, None, Ok, Err, Opti
 use Rattle.session.specs.declared.refusals.SessionRefusal.{SessionRefusal}
 use Rattle.session.specs.declared.refusals.SessionRefusal.TheVariants.{NoVolume}
 use Rattle.book.specs.Meaning.{Book}
-use Rattle.rules.specs.Schedule.{Schedule, offered, volume, imbalance, Signed, InMoney}
+use Rattle.rules.specs.Schedule.{Schedule, offered, volume, imbalance, Signed, MeansInMoney, InMoney}
 use Rattle.rules.specs.Literal.{equilibrium}
 use Rattle.rules.specs.Prices.{Kept, Chosen, NothingTrades}
 use Rattle.rules.specs.Crossings.{SignChange}
 use Rattle.rules.specs.Rivals.{NoRivalAbove}
 use Rattle.price.specs.declared.indications.Indication.{Indication}
 
--- a price of m ticks with its volume and imbalance, or no price
+-- a price of m ticks, with its volume and imbalance
+abbrev pub heading : ℕ → Schedule → ℕ → Indication
+heading tick k m = record { price = m * tick; volume = volume k m; imbalance = imbalance k m }
+
+-- the price that the rule gives, or none
 abbrev pub told : ℕ → Schedule → Option ℕ → Result Indication SessionRefusal
 told tick k None = Err NoVolume
-told tick k (Some m) = Ok (record { price = m * tick; volume = volume k m; imbalance = imbalance k m })
+told tick k (Some m) = Ok (heading tick k m)
 
 abbrev pub indication_answer : Book → ℕ → ℕ → Result Indication SessionRefusal
 indication_answer b tick scarcity = told tick (offered b tick scarcity) (equilibrium (offered b tick scarcity))
@@ -47,8 +51,9 @@ abbrev pub Outcome : Book → ℕ → ℕ → Result Indication SessionRefusal �
 Outcome b tick scarcity (Ok i) = Priced b tick scarcity i
 Outcome b tick scarcity (Err why) = Unpriced b tick scarcity why
 
--- either way, the admissible prices are those of the session, and the imbalance changes its sign once
+-- either way, the admissible prices are those of the session, a mean in ticks is that in money, and the imbalance changes its sign once
 pub record Indicated (b : Book) (tick scarcity : ℕ) (r : Result Indication SessionRefusal) : Type 0 where
   pub outcome : Outcome b tick scarcity r
   pub in_money : (m : ℕ) → InMoney tick scarcity (offered b tick scarcity) m
+  pub means : MeansInMoney tick
   pub sign_change : SignChange (offered b tick scarcity)

@@ -8,6 +8,7 @@ use Rattle.rules.specs.Prices.{Fullest, Kept, Highest, Lowest, Chosen, NothingTr
 use Rattle.rules.specs.Prices.Chosen.{positive, negative, mixed, level}
 use Rattle.rules.specs.Literal.{equilibrium}
 use Rattle.rules.specs.Rivals.{NoRivalAbove}
+use Rattle.rules.proofs.Signs.{never_rises}
 use Rattle.rules.proofs.Curves.{monotone}
 use Rattle.rules.proofs.Keeping.{kept_same, full_like, kept_like}
 use Rattle.rules.proofs.Letters.{equilibrium_answered}
@@ -169,6 +170,7 @@ sign_change k mono =
     let found = crossing_from k mono k.top (omega arith) (λ m from to. absurd (omega arith)) in
     record {
       monotone = mono;
+      never_rises = never_rises k mono;
       place = found.0;
       crossing = found.1;
       before = before_crossing k mono found.0 found.1;

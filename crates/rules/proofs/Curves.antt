@@ -1,12 +1,13 @@
 -- With the price less is bought and more is sold, and what is admissible in money. Assumes nothing.
-use Rattle.std.proofs.Common.{◌≡◌, ℕ, ◌≤◌, Bool, true, false, cond, ◌&&◌, List, [], ◌∷◌, refl, le-div_iff_mul-le, arith}
+use Rattle.std.proofs.Common.{◌≡◌, ℕ, ◌+◌, ◌*◌, ◌/◌, ◌≤◌, sym, ap, ◌∙◌, Bool, true, false, cond, ◌&&◌, List, [], ◌∷◌, refl, le-div_iff_mul-le, mul-add, mul_comm, arith}
+use Rattle.std.proofs.Math.Nat.{mul-div-mul_left}
 use Rattle.std.proofs.lemmas.Bool.{leb-true, le-leb}
 use Rattle.book.specs.declared.orders.Side.{Side}
 use Rattle.book.specs.declared.orders.Side.TheVariants.{Buy, Sell}
 use Rattle.book.specs.Meaning.{Order, is_side, meets, quantity_at}
 use Rattle.book.proofs.Listing.{quantity_nil, quantity_cons}
 use Rattle.session.specs.Openings.{ceiling}
-use Rattle.rules.specs.Schedule.{schedule, InMoney}
+use Rattle.rules.specs.Schedule.{schedule, mean, MeansInMoney, InMoney}
 use Rattle.rules.specs.Crossings.{Monotone}
 
 -- every order of a side that trades at m trades at n too
@@ -36,3 +37,16 @@ in_money os tick scarcity some m =
       only = λ a. (a.low, (le-div_iff_mul-le some).0 a.high);
       all = λ low h. record { low = low; high = (le-div_iff_mul-le some).1 h };
     }
+
+-- both are the same count of ticks: twice the sum and one, over four, also where all are multiplied by the tick
+pub means_in_money : (tick : ℕ) → 1 ≤ tick → MeansInMoney tick
+means_in_money tick some a b =
+    let m = a + b + 1 in
+    let n = m + m in
+    let one : 2 * (a + b) + 1 * 2 ≡ n = omega arith in
+    let whole : (2 * (a + b) + 1 * 2) / 4 * 1 ≡ (2 * (a + b) + 1 * 2) / 4 = omega arith in
+    let ticks : mean a b ≡ n / 4 = whole ∙ ap (λ x. x / 4) one in
+    let above : 2 * (a * tick + b * tick) + tick * 2 ≡ tick * n = omega (arith, mul-add tick m m, mul-add tick (a + b) 1, mul-add tick a b, mul_comm tick a, mul_comm tick b) in
+    let below : 2 * (tick * 2) ≡ tick * 4 = omega arith in
+    let money : (2 * (a * tick + b * tick) + tick * 2) / (2 * (tick * 2)) ≡ n / 4 = ap (λ x. x / (2 * (tick * 2))) above ∙ ap (λ x. tick * n / x) below ∙ mul-div-mul_left n 4 some in
+    ap (λ x. x * tick) (ticks ∙ sym money)

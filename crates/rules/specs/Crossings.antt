@@ -1,6 +1,6 @@
 -- Where the imbalance changes its sign, and that the best prices lie there. Assumes nothing.
-use Rattle.std.specs.Prelude.{◌≡◌, ℕ, ◌+◌, ◌<◌, ◌≤◌}
-use Rattle.rules.specs.Schedule.{Schedule, Positive, Negative}
+use Rattle.std.specs.Prelude.{◌≡◌, ℕ, ◌+◌, ◌<◌, ◌≤◌, ◌≤ℤ◌}
+use Rattle.rules.specs.Schedule.{Schedule, imbalance, Positive, Negative}
 use Rattle.rules.specs.Prices.{Kept, Highest, Lowest}
 
 -- with the price, what is bought never rises and what is sold never falls
@@ -25,10 +25,11 @@ pub record LowestSame (k : Schedule) (p m : ℕ) : Type 0 where
   pub same : Same k p m
   pub bound : (n : ℕ) → 1 ≤ n → Same k p n → m ≤ n
 
--- The imbalance changes its sign once. A kept price is like the last before the change or like the first behind it, and where
+-- The imbalance never rises with the price, and changes its sign once. A kept price is like the last before the change or like the first behind it, and where
 -- kept prices have both signs, the two that decide are neighbours.
 pub record SignChange (k : Schedule) : Type 0 where
   pub monotone : Monotone k
+  pub never_rises : (m n : ℕ) → m ≤ n → imbalance k n ≤ℤ imbalance k m
   pub place : ℕ
   pub crossing : Crossing k place
   pub before : (m : ℕ) → Kept k m → m ≤ place → Same k place m

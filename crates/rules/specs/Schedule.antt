@@ -56,6 +56,10 @@ pub record Signed (k : Schedule) (m : ℕ) : Type 0 where
 abbrev pub mean : ℕ → ℕ → ℕ
 mean a b = nearest 1 (a + b) 2
 
+-- which is, in money, the mean of the two prices to the nearest multiple of the tick
+abbrev pub MeansInMoney : ℕ → Type 0
+MeansInMoney tick = (a b : ℕ) → mean a b * tick ≡ nearest tick (a * tick + b * tick) 2
+
 -- in a session a price of m ticks is admissible just if it is at least one tick and, in money, at most the scarcity price
 pub record InMoney (tick scarcity : ℕ) (k : Schedule) (m : ℕ) : Type 0 where
   pub only : Admissible k m → (1 ≤ m) × (m * tick ≤ scarcity)

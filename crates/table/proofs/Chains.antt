@@ -1,5 +1,5 @@
 -- What chains over the rows of a table give, in the words of the rules. Assumes nothing.
-use Rattle.std.proofs.Common.{◌≡◌, ℕ, ◌+◌, ◌*◌, ◌≤◌, Bool, cond, ◌&&◌, eqb, List, [], ◌∷◌, length, Some, None, sym, refl, ap, ◌∙◌, ⊎_elim, arith}
+use Rattle.std.proofs.Common.{◌≡◌, ℕ, ◌*◌, ◌≤◌, Bool, cond, ◌&&◌, eqb, List, [], ◌∷◌, length, Some, None, sym, refl, ap, ◌∙◌, ⊎_elim, arith}
 use Rattle.std.specs.List.{count_by, sum_by, find}
 use Rattle.std.specs.Option.{option_map}
 use Rattle.std.proofs.lemmas.List.Recursion.{is_sum_by}
@@ -9,16 +9,10 @@ use Rattle.book.specs.declared.orders.Side.{Side}
 use Rattle.book.specs.Meaning.{Order, order_of, is_side, meets, part_of, quantity_at}
 use Rattle.book.proofs.Listing.{quantity_nil, quantity_cons}
 use Rattle.table.specs.declared.row.Row.{Row}
-use Rattle.table.specs.Aheads.{ahead, counted, first_at}
+use Rattle.book.specs.Ranks.{ahead, counted}
+use Rattle.book.proofs.Places.{counted_nil, counted_cons}
+use Rattle.table.specs.Aheads.{first_at}
 use Rattle.table.specs.Tables.{orders_of, aheads_in}
-
-pub counted_nil : (y : Order) → counted [] y ≡ 0
-unfolding counted
-counted_nil y = refl
-
-pub counted_cons : (x : Order) (xs : List Order) (y : Order) → counted (x ∷ xs) y ≡ cond (ahead x y) 1 0 + counted xs y
-unfolding counted
-counted_cons x xs y = refl
 
 pub counted_rows : (y : Order) (rows : List Row) → count_by (λ r. ahead (order_of r.live) y) rows ≡ counted (orders_of rows) y
 counted_rows y rows = sym (is_sum_by (λ l. counted (orders_of l) y) (λ r. cond (ahead (order_of r.live) y) 1 0) (counted_nil y) (λ r l. counted_cons (order_of r.live) (orders_of l) y) rows)

@@ -9,9 +9,10 @@ use Rattle.book.specs.Meaning.{Order, order_of, is_side, left_of}
 use Rattle.book.specs.Ranks.{before}
 use Rattle.book.proofs.Turns.{irreflexive, lessened}
 use Rattle.table.specs.declared.row.Row.{Row}
-use Rattle.table.specs.Aheads.{ahead, counted, aheads_of, raised, lowered, shifted}
+use Rattle.book.specs.Ranks.{ahead, counted}
+use Rattle.table.specs.Aheads.{aheads_of, raised, lowered, shifted}
 use Rattle.table.specs.Tables.{orders_of, aheads_in}
-use Rattle.table.proofs.Chains.{counted_nil, counted_cons}
+use Rattle.book.proofs.Places.{counted_nil, counted_cons}
 
 module _ (f : ℕ → ℕ) (o : Order) where
   pub moves : (x : Row) → ahead o (order_of x.live) ≡ true → (n : ℕ) → n ≡ f x.ahead → ◌≡◌ {A = Row} (record { live = x.live; ahead = n }) (shifted f o x)

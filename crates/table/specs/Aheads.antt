@@ -1,20 +1,11 @@
--- How many orders of its side go before an order. Assumes nothing.
-use Rattle.std.specs.Prelude.{ℕ, ◌+◌, ◌-◌, min, Bool, cond, ◌&&◌, List, [], ◌∷◌, map, Some, None, Option, ◌==◌}
+-- What a table keeps beside each order: how many of its side go before it. Assumes nothing.
+use Rattle.std.specs.Prelude.{ℕ, ◌+◌, ◌-◌, min, cond, ◌&&◌, List, [], ◌∷◌, map, Some, None, Option, ◌==◌}
 use Rattle.book.specs.declared.orders.Side.{Side}
 use Rattle.book.specs.Meaning.{Order, order_of, is_side}
-use Rattle.book.specs.Ranks.{before}
+use Rattle.book.specs.Ranks.{ahead, counted}
 use Rattle.table.specs.declared.row.Row.{Row}
 
--- x is of y's side and goes before it
-abbrev pub ahead : Order → Order → Bool
-ahead x y = is_side y.side x.side && before y.side x y
-
--- how many of the orders do
-unfoldable pub counted : List Order → Order → ℕ
-counted [] y = 0
-counted (x ∷ xs) y = cond (ahead x y) 1 0 + counted xs y
-
--- and that for each of them
+-- how many orders go before each of the orders
 abbrev pub aheads_of : List Order → List ℕ
 aheads_of os = map (counted os) os
 

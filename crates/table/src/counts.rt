@@ -1,7 +1,8 @@
 // What the rows of a table count: the orders of a side that go before another, and quantities.
 ghost use Rattle.std.specs.Prelude.{◌≡◌, ℕ, ◌≤◌, ◌&&◌, ◌==◌, length, map};
 ghost use Rattle.book.specs.Meaning.{order_of, seen, is_side, part_of, quantity_at};
-ghost use Rattle.table.specs.Aheads.{ahead, counted, shifted, first_at};
+ghost use Rattle.book.specs.Ranks.{ahead, counted};
+ghost use Rattle.table.specs.Aheads.{shifted, first_at};
 ghost use Rattle.table.specs.Tables.{orders_of, aheads_in};
 
 use crate::row::Row;

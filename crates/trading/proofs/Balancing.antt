@@ -7,7 +7,7 @@ use Rattle.session.specs.declared.refusals.SessionRefusal.TheVariants.{RegisterS
 use Rattle.book.specs.declared.orders.Side.{Side}
 use Rattle.book.specs.declared.refusals.BookRefusal.{BookRefusal}
 use Rattle.book.specs.declared.refusals.BookRefusal.TheVariants.{Full, NumbersSpent, CutRange}
-use Rattle.book.specs.Meaning.{Book, Order, rising, enter_answer, find_in, found, cut_answer, cut_judged, cut}
+use Rattle.book.specs.Meaning.{Book, Order, rising, enter_answer, with_order, find_in, found, cut_answer, cut_judged, cut}
 use Rattle.book.proofs.Listing.{rising_cut, rising_push, rising_apart}
 use Rattle.rules.specs.Schedule.{Schedule, offered, volume}
 use Rattle.rules.specs.Literal.{equilibrium}
@@ -18,12 +18,12 @@ use Rattle.rules.proofs.Sums.{each_all}
 use Rattle.rules.proofs.Cutting.{cut_rest}
 use Rattle.rules.proofs.Fitting.{trades_rest, trades_stand}
 use Rattle.price.specs.declared.indications.Indication.{Indication}
-use Rattle.price.specs.Indications.{indication_answer}
+use Rattle.price.specs.Indications.{heading, indication_answer}
 use Rattle.trading.specs.declared.calls.Call.{Call}
 use Rattle.trading.specs.declared.calls.Call.TheVariants.{Entry, Cut, Withdrawal, Indication as AskIndication, Uncrossing}
 use Rattle.trading.specs.declared.refusals.Refusal.{Refusal}
 use Rattle.trading.specs.declared.refusals.Refusal.TheVariants.{Session as OfSession}
-use Rattle.trading.specs.Replies.{Reply, uncrossed, refused, Outcome, entry_limit, with_order, entry_by_book, entry_by_session, cut_by_book, withdrawal_of, indication_of, heading, crossing_of, uncrossing_at, outcome, replies, after_all}
+use Rattle.trading.specs.Replies.{Reply, uncrossed, refused, Outcome, entry_limit, entry_by_book, entry_by_session, cut_by_book, withdrawal_of, indication_of, crossing_of, uncrossing_at, outcome, replies, after_all}
 use Rattle.trading.specs.Law.{Entered, entry, new_entry, first_of, entry_of, of_entry, rest_of, entered_by, cut_by, traded_by, withdrawn_by, taken_by, sum_of, withdrawn_sum, taken_total, Conserved, Fresh}
 use Rattle.trading.proofs.Knowing.{Entries, Known, entered_as, known_as, same_zero, known_cut, known_gone, found_known, found_le, rising_trades, known_trades, traded_above, resting_more, known_more}
 

@@ -20,13 +20,13 @@ use Rattle.rules.specs.Rivals.{total, Fills}
 use Rattle.rules.proofs.Fitting.{trades_stand, trades_few}
 use Rattle.rules.proofs.Shrinking.{trades_shrink}
 use Rattle.rules.proofs.Turning.{trades_in_rank}
-use Rattle.price.specs.Indications.{told}
+use Rattle.price.specs.Indications.{heading, told}
 use Rattle.price.proofs.Outcomes.{best}
 use Rattle.trading.specs.declared.calls.Call.{Call}
 use Rattle.trading.specs.declared.calls.Call.TheVariants.{Entry, Cut, Withdrawal, Indication as AskIndication, Uncrossing}
 use Rattle.trading.specs.declared.refusals.Refusal.{Refusal}
 use Rattle.trading.specs.declared.refusals.Refusal.TheVariants.{Book as OfBook, Session as OfSession}
-use Rattle.trading.specs.Replies.{Reply, refused, Outcome, refusal, price_limit, entry_limit, entry_by_book, entry_by_session, cut_by_book, withdrawal_of, indication_of, heading, crossing_of, uncrossing_at, trades_of, outcome, replies, after_all, register_after}
+use Rattle.trading.specs.Replies.{Reply, refused, Outcome, refusal, price_limit, entry_limit, entry_by_book, entry_by_session, cut_by_book, withdrawal_of, indication_of, crossing_of, uncrossing_at, trades_of, outcome, replies, after_all, register_after}
 use Rattle.trading.specs.Law.{Idle, Unrivalled, RightlyPriced, Short, FewTrades, Throughout, Conserved, Law}
 use Rattle.trading.proofs.Balancing.{conserved}
 use Rattle.trading.proofs.Knowing.{rising_trades}

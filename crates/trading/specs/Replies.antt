@@ -1,5 +1,5 @@
 -- What each call is answered and what it leaves, for one call and for a list of calls. Assumes nothing.
-use Rattle.std.specs.Prelude.{ℕ, ◌+◌, ◌*◌, cond, ◌&&◌, List, [], ◌∷◌, ◌++◌, length, take, drop, Some, None, Ok, Err, Option, Result, nat_le, nat_lt}
+use Rattle.std.specs.Prelude.{ℕ, ◌*◌, cond, ◌&&◌, List, [], ◌∷◌, ◌++◌, length, take, drop, Some, None, Ok, Err, Option, Result, nat_le, nat_lt}
 use Rattle.note.specs.declared.trades.Trade.{Trade}
 use Rattle.session.specs.declared.judgements.PriceRefusal.{PriceRefusal}
 use Rattle.session.specs.declared.refusals.SessionRefusal.{SessionRefusal}
@@ -9,12 +9,12 @@ use Rattle.session.specs.Refusals.{of_price}
 use Rattle.book.specs.declared.orders.Side.{Side}
 use Rattle.book.specs.declared.refusals.BookRefusal.{BookRefusal}
 use Rattle.book.specs.declared.refusals.BookRefusal.TheVariants.{UnknownOrder}
-use Rattle.book.specs.Meaning.{Order, Book, enter_answer, found, cut_answer, cut}
-use Rattle.rules.specs.Schedule.{Schedule, offered, volume, imbalance}
+use Rattle.book.specs.Meaning.{Order, Book, enter_answer, with_order, found, cut_answer, cut}
+use Rattle.rules.specs.Schedule.{Schedule, offered, volume}
 use Rattle.rules.specs.Literal.{equilibrium}
 use Rattle.rules.specs.Trades.{trades_at, after_trades}
 use Rattle.price.specs.declared.indications.Indication.{Indication}
-use Rattle.price.specs.Indications.{indication_answer}
+use Rattle.price.specs.Indications.{heading, indication_answer}
 use Rattle.trading.specs.declared.calls.Call.{Call}
 use Rattle.trading.specs.declared.calls.Call.TheVariants.{Entry, Cut, Withdrawal, Indication as AskIndication, Uncrossing}
 use Rattle.trading.specs.declared.answers.Answer.{Answer}
@@ -49,11 +49,6 @@ price_limit (Err why) = Err (of_price why)
 unfoldable pub entry_limit : ℕ → ℕ → ℕ → Result ℕ SessionRefusal
 entry_limit tick quantity price = cond (nat_le 1 quantity && nat_le quantity 6858) (price_limit (price_judged tick price)) (Err QuantityRange)
 
--- the order gets the last number plus 1 and stands at the end
-abbrev pub with_order : Book → Side → ℕ → ℕ → Book
-with_order m side limit quantity =
-    record { places = m.places; last = m.last + 1; orders = m.orders ++ record { number = m.last + 1; side = side; limit = limit; quantity = quantity } ∷ [] }
-
 abbrev pub entry_by_book : Book → Side → ℕ → ℕ → Result ℕ BookRefusal → Outcome
 entry_by_book m side limit quantity (Ok number) = record { reply = entered number; after = with_order m side limit quantity }
 entry_by_book m side limit quantity (Err why) = refusal m (OfBook why)
@@ -81,13 +76,13 @@ indication_of m (Err why) = refusal m (OfSession why)
 -- Uncrossing: refused if nothing trades, then if there are more trades than places; else the trades of the volume, each cut from
 -- both of its orders. Volume and imbalance are those before the cuts.
 
-abbrev pub heading : ℕ → Schedule → ℕ → Indication
-heading tick k p = record { price = p * tick; volume = volume k p; imbalance = imbalance k p }
+abbrev pub settled : Book → List Trade → Book
+settled m ts = record { places = m.places; last = m.last; orders = after_trades m.orders ts }
 
 abbrev pub crossing_of : Book → ℕ → Indication → List Trade → Outcome
 crossing_of m places told ts =
     cond (nat_lt places (length ts)) (refusal m (OfSession RegisterShort))
-    (record { reply = uncrossed told ts; after = record { places = m.places; last = m.last; orders = after_trades m.orders ts } })
+    (record { reply = uncrossed told ts; after = settled m ts })
 
 abbrev pub uncrossing_at : ℕ → ℕ → Book → Schedule → Option ℕ → Outcome
 uncrossing_at tick places m k None = refusal m (OfSession NoVolume)

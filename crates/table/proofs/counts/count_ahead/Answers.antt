@@ -1,7 +1,7 @@
 use Rattle.std.proofs.Common.{rules, ◌≡◌, ◌∙◌}
 use Rattle.std.specs.List.{count_by}
 use Rattle.book.specs.Meaning.{order_of}
-use Rattle.table.specs.Aheads.{ahead}
+use Rattle.book.specs.Ranks.{ahead}
 use Rattle.table.proofs.Chains.{counted_rows}
 use Rattle.table.proofs.counts.count_ahead.Goals as goal
 

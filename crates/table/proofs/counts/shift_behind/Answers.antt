@@ -1,7 +1,8 @@
 use Rattle.std.proofs.Common.{get_or, set, sym, ap, ◌∙◌, arith}
 use Rattle.std.proofs.lemmas.List.Edits.{map_over_more}
 use Rattle.book.specs.Meaning.{order_of}
-use Rattle.table.specs.Aheads.{ahead, shifted}
+use Rattle.book.specs.Ranks.{ahead}
+use Rattle.table.specs.Aheads.{shifted}
 use Rattle.table.proofs.Moving.{moves, stays}
 use Rattle.table.proofs.counts.shift_behind.Goals.{then-goes_ahead, else-goes_ahead}
 use Rattle.table.proofs.counts.shift_behind.Goals as goal

@@ -14,7 +14,7 @@ overflow_add-result g c = omega (arith, rank_small _ _ _ (g.B.OrderBook.sound c.
 
 pub returns-in-Some : goal.returns-in-Some
 returns-in-Some g c =
-    refill_some _ _ c.args.self (order_of c.in-Some.order) _ (omega arith) c.if-self-eq-NOTHING.false (sym c.in-Some.ensures) (omega (arith, c.in-Some.order.body.sized)) (omega arith)
+    refill_some _ _ c.args.self (order_of c.in-Some.order) _ (omega arith) c.if-self-eq-NOTHING.false (sym c.in-Some.ensures.value) (omega (arith, c.in-Some.order.body.sized)) (omega arith)
 
 pub returns-in-None : goal.returns-in-None
-returns-in-None g c = refill_none _ _ c.args.self c.requires (omega arith) (sym c.in-None.ensures)
+returns-in-None g c = refill_none _ _ c.args.self c.requires (omega arith) (sym c.in-None.ensures.value)

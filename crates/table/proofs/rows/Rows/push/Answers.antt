@@ -2,7 +2,8 @@ use Rattle.std.proofs.Common.{rules, ap, ◌∙◌, map, arith}
 use lib.ListN.{length-map}
 use Rattle.std.proofs.lemmas.List.{with_items_is}
 use Rattle.book.specs.Meaning.{order_of}
-use Rattle.table.specs.Aheads.{counted, raised, shifted}
+use Rattle.book.specs.Ranks.{counted}
+use Rattle.table.specs.Aheads.{raised, shifted}
 use Rattle.table.specs.Tables.{orders_of}
 use Rattle.table.proofs.Moving.{entered_orders, entered_counts}
 use Rattle.table.proofs.rows.Rows.push.Goals as goal
