@@ -1,9 +1,8 @@
--- One item more of a count.
-use Rattle.std.proofs.Common.{subst}
-use Rattle.trials.specs.Counts.{Computes}
-use Rattle.std.proofs.Common.{◌≡◌, ◌+◌, List, [], ◌∷◌, ◌++◌, Bool, cond, count_by, length, ◌<◌, take, slice_index_or, arith, sym, ap, ◌∙◌}
+-- One item more of a count, and what a test's closure answers at it.
+use Rattle.std.proofs.Common.{◌≡◌, ◌+◌, List, [], ◌∷◌, ◌++◌, Bool, cond, count_by, length, ◌<◌, take, slice_index_or, arith, sym, ap, subst, ◌∙◌}
 use Rattle.std.proofs.lemmas.Grind.{take_at_read}
 use Rattle.std.proofs.lemmas.List.Sums.{sum_by-append}
+use Rattle.trials.specs.Counts.{Computes}
 
 pub count_by-next : {T : Type 0} (test : T → Bool) (xs : List T) (i : _) (y : T) (b : Bool) → i < length xs → y ≡ slice_index_or xs i y → b ≡ test y → count_by test (take (i + 1) xs) ≡ count_by test (take i xs) + cond b 1 0
 count_by-next test xs i y b here is said =
