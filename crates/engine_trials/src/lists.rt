@@ -25,7 +25,7 @@ pub(crate) const UNWRITTEN: Trade = Trade {
 #[derive(Drop)]
 struct Expected {
     /// What each call is answered; of a refusal its number.
-    // The number and no refusal: those of the calculator and of the engine are cases of different enums, and what they share is their numbers.
+    // The number alone: the calculator's refusals and the engine's are different enums, and what they share is their numbers.
     answers: Vec<Result<Answer, u8>>,
     /// The trades of all uncrossings.
     log: Vec<Trade>,
