@@ -1,11 +1,11 @@
 // Cutting: unknown numbers, quantities out of range, partial cuts and cuts to 0.
-use crate::makes::Make;
 use crate::orders::{body, seen};
 use book::Side::{Buy, Sell};
 use book::{BookRefusal, OrderBook};
 use std::alloc::Global;
 use std::process::Abort;
 use std::test::Fail;
+use trials::Make;
 
 /// Enters a buy of 5 and a sell of 6, and a buy of 7 that leaves again.
 fn enter_three<B: OrderBook>(rt: &impl Abort, book: &mut B) -> Result<(), Fail> {

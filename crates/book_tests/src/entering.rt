@@ -1,11 +1,11 @@
 // Entering: numbers in turn, full books, and numbers that are never given again.
-use crate::makes::Make;
 use crate::orders::{body, seen};
 use book::Side::{Buy, Sell};
 use book::{BookRefusal, OrderBook};
 use std::alloc::Global;
 use std::process::Abort;
 use std::test::Fail;
+use trials::Make;
 
 /// The two orders of `full_book` are all that the book holds.
 fn holds_both<B: OrderBook>(rt: &impl Abort, book: &B) -> Result<(), Fail> {

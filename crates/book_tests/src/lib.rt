@@ -14,8 +14,6 @@ mod ladders;
 #[cfg(test)]
 mod limits;
 #[cfg(test)]
-mod makes;
-#[cfg(test)]
 mod numbers;
 #[cfg(test)]
 mod orders;

@@ -1,11 +1,11 @@
 // Quantities at a limit: at each limit of the book, one tick to each side, and at the ends.
-use crate::makes::Make;
 use crate::orders::body;
 use book::Side::{Buy, Sell};
 use book::{BookRefusal, OrderBook};
 use std::alloc::Global;
 use std::process::Abort;
 use std::test::Fail;
+use trials::Make;
 
 /// No quantity is bought or sold on an empty book.
 fn empty_book<B: OrderBook>(rt: &impl Abort, book: &B) {

@@ -1,11 +1,11 @@
 // All the numbers that a book gives out, on a book of one place.
-use crate::makes::Make;
 use crate::orders::{body, seen};
 use book::Side::{Buy, Sell};
 use book::{BookRefusal, OrderBook};
 use std::alloc::Global;
 use std::process::Abort;
 use std::test::Fail;
+use trials::Make;
 
 /// Enters an order, which has this number, and cuts it to 0.
 fn pass<B: OrderBook>(rt: &impl Abort, book: &mut B, number: u32) -> Result<(), Fail> {

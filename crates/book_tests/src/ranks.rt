@@ -1,11 +1,11 @@
 // Ranks: the better limit first, then the lower number, and none at 0 or past the last.
-use crate::makes::Make;
 use crate::orders::{body, seen};
 use book::Side::{Buy, Sell};
 use book::{Live, OrderBook, Side};
 use std::alloc::Global;
 use std::process::Abort;
 use std::test::Fail;
+use trials::Make;
 
 /// An empty book has no order at any place.
 fn empty_book<B: OrderBook>(rt: &impl Abort, book: &B) {

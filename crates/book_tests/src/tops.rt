@@ -1,11 +1,11 @@
 // The best order of each side, and what trades between them.
-use crate::makes::Make;
 use crate::orders::{body, seen};
 use book::Side::{Buy, Sell};
 use book::{Live, OrderBook, TopOfBook, top_of_book};
 use std::alloc::Global;
 use std::process::Abort;
 use std::test::Fail;
+use trials::Make;
 
 /// The best orders are these, and so many contracts trade.
 fn top_is<B: OrderBook>(

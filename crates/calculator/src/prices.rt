@@ -96,28 +96,31 @@ impl<'a> Kept<'a> {
         Some(at).filter(|at| at.volume() == self.volume && at.size() == self.size)
     }
 
-    fn lowest(&self) -> Option<u32> {
-        (1..=self.top).find(|m| self.at(*m).is_some())
+    /// The lowest kept price at which a test holds of what is bought and sold.
+    fn lowest<F: Fn(Offered) -> bool>(&self, is_sought: F) -> Option<u32>
+        requires { F.IsAlwaysCallable is_sought }
+    {
+        (1..=self.top).find(|m| self.at(*m).is_some_and(|at| is_sought(at)))
     }
 
-    fn highest(&self) -> Option<u32> {
-        (1..=self.top).rev().find(|m| self.at(*m).is_some())
-    }
-
-    fn lowest_negative(&self) -> Option<u32> {
-        (1..=self.top).find(|m| self.at(*m).is_some_and(|at| at.bought < at.sold))
-    }
-
-    fn highest_positive(&self) -> Option<u32> {
+    /// The highest such price.
+    fn highest<F: Fn(Offered) -> bool>(&self, is_sought: F) -> Option<u32>
+        requires { F.IsAlwaysCallable is_sought }
+    {
         (1..=self.top)
             .rev()
-            .find(|m| self.at(*m).is_some_and(|at| at.bought > at.sold))
+            .find(|m| self.at(*m).is_some_and(|at| is_sought(at)))
     }
 
     /// The price that the tie rule picks.
     fn tie(&self) -> Option<(Ending, u32)> {
-        let tied = match (self.highest_positive(), self.lowest_negative()) {
-            (None, None) => (Ending::Level, nearest(self.lowest()?, self.highest()?)?),
+        let positive = self.highest(|at| at.bought > at.sold);
+        let negative = self.lowest(|at| at.bought < at.sold);
+        let tied = match (positive, negative) {
+            (None, None) => {
+                let (lowest, highest) = (self.lowest(|_| true)?, self.highest(|_| true)?);
+                (Ending::Level, nearest(lowest, highest)?)
+            }
             (None, Some(lowest)) => (Ending::Negative, lowest),
             (Some(highest), None) => (Ending::Positive, highest),
             (Some(highest), Some(lowest)) => (Ending::Mixed, nearest(highest, lowest)?),

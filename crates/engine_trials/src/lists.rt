@@ -1,7 +1,7 @@
 // Generated lists of calls, on both makes and on the calculator.
 use crate::tallies::Outcome;
 use book::{Live, OrderBook};
-use calculator::{PlainBook, PlainOrder, PlainRefusal, PlainReply, Source};
+use calculator::{PlainBook, PlainOrder, PlainRefusal, PlainReply, Source, order};
 use engine::{Journal, run};
 use ladder::Ladder;
 use note::Trade;
@@ -10,6 +10,7 @@ use session::Session;
 use std::alloc::{AllocError, Global};
 use table::Table;
 use trading::{Answer, Call};
+use trials::Make;
 
 /// How many calls a list has.
 const CALLS: u32 = 30;
@@ -24,6 +25,7 @@ pub(crate) const UNWRITTEN: Trade = Trade {
 #[derive(Drop)]
 struct Expected {
     /// What each call is answered; of a refusal its number.
+    // The number alone: the calculator's refusals and the engine's are different enums, and what they share is their numbers.
     answers: Vec<Result<Answer, u8>>,
     /// The trades of all uncrossings.
     log: Vec<Trade>,
@@ -60,7 +62,7 @@ fn random_calls(heap: Global, source: &mut Source) -> Result<Vec<Call>, AllocErr
 
 /// A register of so many places in which nothing is written.
 fn blank(heap: Global, places: usize) -> Result<Vec<Trade>, AllocError> {
-    (0..places).map(|_| UNWRITTEN).collect(heap)
+    vec![in heap; UNWRITTEN; places]
 }
 
 /// Writes trades over the first places of a register.
@@ -147,14 +149,10 @@ fn answers_agree(journal: &Journal, expected: &Expected) -> bool {
 }
 
 /// Whether what a book finds of a number is what the calculator holds; an order that has left holds 0.
-fn order_agrees(held: Option<Live>, order: PlainOrder) -> bool {
+fn order_agrees(held: Option<Live>, plain: PlainOrder) -> bool {
     match held {
-        Some(live) => {
-            live.body.quantity == order.quantity
-                && live.body.limit == order.limit
-                && live.body.side == order.side
-        }
-        None => order.quantity == 0,
+        Some(Live { body, .. }) => order(body.side, body.quantity, body.limit) == plain,
+        None => plain.quantity == 0,
     }
 }
 
@@ -162,32 +160,31 @@ fn order_agrees(held: Option<Live>, order: PlainOrder) -> bool {
 fn book_agrees<B: OrderBook>(book: &B, plain: &PlainBook) -> bool {
     let agree = (1u32..=u32::MAX)
         .zip(plain.orders.iter())
-        .all(|(number, order)| order_agrees(book.find(number), *order));
+        .all(|(number, plain)| order_agrees(book.find(number), *plain));
     agree
         && book.last() as usize == plain.orders.len()
         && book.find(book.last().saturating_add(1)).is_none()
 }
 
-/// Whether a make does what the calculator does.
-fn make_agrees<B: OrderBook>(
+/// Whether a make of so many places does something else than the calculator.
+fn is_apart<B: Make>(
     heap: Global,
-    book: &mut B,
+    places: usize,
     session: Session,
     calls: &[Call],
     expected: &Expected,
 ) -> Result<bool, AllocError> {
+    let mut book = B::fresh(heap, places)?;
     let mut register = blank(heap, expected.register.len())?;
-    let journal = run(heap, book, session, calls, &mut register)?;
-    Ok(
-        answers_agree(&journal, expected)
-            && journal.trades == expected.log
-            && register == expected.register
-            && book_agrees(book, &expected.book),
-    )
+    let journal = run(heap, &mut book, session, calls, &mut register)?;
+    let agrees = answers_agree(&journal, expected)
+        && journal.trades == expected.log
+        && register == expected.register
+        && book_agrees(&book, &expected.book);
+    Ok(!agrees)
 }
 
 /// One generated list, on both makes.
-// Each make is asked for by its own `new`, which wants other numbers; what is tried of it is one text.
 fn try_list(heap: Global, source: &mut Source) -> Result<Outcome, AllocError> {
     let tick = source.below(3) + 1;
     let scarcity = source.below(30) + 1;
@@ -197,10 +194,8 @@ fn try_list(heap: Global, source: &mut Source) -> Result<Outcome, AllocError> {
     let calls = random_calls(heap, source)?;
     let plain = PlainBook::new(heap, places, tick, scarcity);
     let expected = expect(heap, plain, &calls, room)?;
-    let mut table = Table::new(heap, places)?;
-    let table_apart = !make_agrees(heap, &mut table, session, &calls, &expected)?;
-    let mut ladder = Ladder::new(heap, places, places)?;
-    let ladder_apart = !make_agrees(heap, &mut ladder, session, &calls, &expected)?;
+    let table_apart = is_apart::<Table>(heap, places, session, &calls, &expected)?;
+    let ladder_apart = is_apart::<Ladder>(heap, places, session, &calls, &expected)?;
     Ok(Outcome {
         answers: expected.answers,
         trades: expected.log.len(),

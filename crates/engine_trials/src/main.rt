@@ -6,29 +6,16 @@ mod lists;
 mod shown;
 mod tallies;
 
-use days::{run_crowd, run_listing, run_registers};
+use days::{run_crowd, run_listing, run_numbers, run_registers};
 use lists::try_lists;
 use tallies::{Outcome, all_answers, traded};
 use trading::Answer;
+use trials::show_count;
 
 /// Where the generated numbers start.
 const SEED: u64 = 18_112_026;
 /// How many lists of calls are generated.
 const LISTS: u32 = 2_000;
-
-/// Prints of how many items a test holds.
-fn show_count<T, F: Fn(&T) -> bool>(
-    rt: &HostRuntime,
-    words: &str,
-    items: &[T],
-    counts: F,
-) -> anyhow::Result<()>
-    requires { F.IsAlwaysCallable counts }
-{
-    let count = items.iter().filter(|item| counts(item)).count();
-    println!(rt; "{words} {count}")?;
-    Ok(())
-}
 
 /// Prints how many calls came to each kind of answer.
 fn show_answers(rt: &HostRuntime, answers: &[Result<Answer, u8>]) -> anyhow::Result<()> {
@@ -56,7 +43,8 @@ fn show_answers(rt: &HostRuntime, answers: &[Result<Answer, u8>]) -> anyhow::Res
         "uncrossed",
         answers,
         |answer| matches!(answer, Ok(Answer::Uncrossed { .. })),
-    )
+    )?;
+    Ok(())
 }
 
 /// Prints how many calls came to each refusal that came.
@@ -82,7 +70,8 @@ fn show_outcomes(rt: &HostRuntime, outcomes: &[Outcome]) -> anyhow::Result<()> {
         "ladder differs",
         outcomes,
         |outcome| outcome.ladder_apart,
-    )
+    )?;
+    Ok(())
 }
 
 fn run(rt: &HostRuntime) -> anyhow::Result<()> {
@@ -92,7 +81,9 @@ fn run(rt: &HostRuntime) -> anyhow::Result<()> {
     println!(rt; "registers and repeated uncrossings")?;
     run_registers(rt)?;
     println!(rt; "a full book")?;
-    run_crowd(rt)
+    run_crowd(rt)?;
+    println!(rt; "all numbers given out")?;
+    run_numbers(rt)
 }
 
 fn main(rt: HostRuntime) -> anyhow::Result<()> {

@@ -1,4 +1,5 @@
 // Figures of the closing price.
+use crate::figures::{Figure, show_figures};
 use crate::refused::show_refused;
 use closing::{ClosingInputs, LastPrice, PricedTrade, closing_price};
 use ranking::SurveyPrice;
@@ -35,52 +36,45 @@ const EVERYTHING: ClosingInputs<'static> = ClosingInputs {
     }; 5],
 };
 
-/// What is given, with its name.
-#[derive(Clone, Copy)]
-struct ClosingFigure {
-    name: &'static str,
-    inputs: ClosingInputs<'static>,
-}
-
 /// Everything at a tick of 10 and a scarcity price of 30,000.
-static FIGURES: [ClosingFigure; 60] = [
+static FIGURES: [Figure<'static, ClosingInputs<'static>>; 70] = [
     // Each criterion but the survey, alone.
-    ClosingFigure {
+    Figure {
         name: "nothing",
-        inputs: NOTHING,
+        given: NOTHING,
     },
-    ClosingFigure {
+    Figure {
         name: "today 10000",
-        inputs: ClosingInputs {
+        given: ClosingInputs {
             today: Some(10_000),
             ..NOTHING
         },
     },
-    ClosingFigure {
+    Figure {
         name: "today 10",
-        inputs: ClosingInputs {
+        given: ClosingInputs {
             today: Some(10),
             ..NOTHING
         },
     },
-    ClosingFigure {
+    Figure {
         name: "today 10000000",
-        inputs: ClosingInputs {
+        given: ClosingInputs {
             today: Some(10_000_000),
             ..NOTHING
         },
     },
-    ClosingFigure {
+    Figure {
         name: "today 10000 marked",
-        inputs: ClosingInputs {
+        given: ClosingInputs {
             today: Some(10_000),
             out_of_market: true,
             ..NOTHING
         },
     },
-    ClosingFigure {
+    Figure {
         name: "last 9990 of age 0",
-        inputs: ClosingInputs {
+        given: ClosingInputs {
             last: Some(LastPrice {
                 price: 9_990,
                 age: 0,
@@ -88,9 +82,9 @@ static FIGURES: [ClosingFigure; 60] = [
             ..NOTHING
         },
     },
-    ClosingFigure {
+    Figure {
         name: "last 9990 of age 1",
-        inputs: ClosingInputs {
+        given: ClosingInputs {
             last: Some(LastPrice {
                 price: 9_990,
                 age: 1,
@@ -98,9 +92,9 @@ static FIGURES: [ClosingFigure; 60] = [
             ..NOTHING
         },
     },
-    ClosingFigure {
+    Figure {
         name: "last 9990 of age 5",
-        inputs: ClosingInputs {
+        given: ClosingInputs {
             last: Some(LastPrice {
                 price: 9_990,
                 age: 5,
@@ -108,9 +102,9 @@ static FIGURES: [ClosingFigure; 60] = [
             ..NOTHING
         },
     },
-    ClosingFigure {
+    Figure {
         name: "last 9990 of age 6",
-        inputs: ClosingInputs {
+        given: ClosingInputs {
             last: Some(LastPrice {
                 price: 9_990,
                 age: 6,
@@ -118,9 +112,9 @@ static FIGURES: [ClosingFigure; 60] = [
             ..NOTHING
         },
     },
-    ClosingFigure {
+    Figure {
         name: "last 9990 of age 1 marked",
-        inputs: ClosingInputs {
+        given: ClosingInputs {
             last: Some(LastPrice {
                 price: 9_990,
                 age: 1,
@@ -129,9 +123,9 @@ static FIGURES: [ClosingFigure; 60] = [
             ..NOTHING
         },
     },
-    ClosingFigure {
+    Figure {
         name: "1 at 10000, 1 at 10000, 2 at 10010",
-        inputs: ClosingInputs {
+        given: ClosingInputs {
             trades: &[
                 PricedTrade {
                     price: 10_000,
@@ -149,9 +143,9 @@ static FIGURES: [ClosingFigure; 60] = [
             ..NOTHING
         },
     },
-    ClosingFigure {
+    Figure {
         name: "6858 at 10000, 1 at 20000, 1 at 20000",
-        inputs: ClosingInputs {
+        given: ClosingInputs {
             trades: &[
                 PricedTrade {
                     price: 10_000,
@@ -169,9 +163,9 @@ static FIGURES: [ClosingFigure; 60] = [
             ..NOTHING
         },
     },
-    ClosingFigure {
+    Figure {
         name: "two trades",
-        inputs: ClosingInputs {
+        given: ClosingInputs {
             trades: &[PricedTrade {
                 price: 10_000,
                 quantity: 1,
@@ -179,56 +173,56 @@ static FIGURES: [ClosingFigure; 60] = [
             ..NOTHING
         },
     },
-    ClosingFigure {
+    Figure {
         name: "best 10000 and 15000",
-        inputs: ClosingInputs {
+        given: ClosingInputs {
             best_buy: Some(10_000),
             best_sell: Some(15_000),
             ..NOTHING
         },
     },
-    ClosingFigure {
+    Figure {
         name: "best 10000 and 15010",
-        inputs: ClosingInputs {
+        given: ClosingInputs {
             best_buy: Some(10_000),
             best_sell: Some(15_010),
             ..NOTHING
         },
     },
-    ClosingFigure {
+    Figure {
         name: "best 10000 and 10010",
-        inputs: ClosingInputs {
+        given: ClosingInputs {
             best_buy: Some(10_000),
             best_sell: Some(10_010),
             ..NOTHING
         },
     },
-    ClosingFigure {
+    Figure {
         name: "best 10010 and 10000",
-        inputs: ClosingInputs {
+        given: ClosingInputs {
             best_buy: Some(10_010),
             best_sell: Some(10_000),
             ..NOTHING
         },
     },
-    ClosingFigure {
+    Figure {
         name: "best buy 10000 alone",
-        inputs: ClosingInputs {
+        given: ClosingInputs {
             best_buy: Some(10_000),
             ..NOTHING
         },
     },
-    ClosingFigure {
+    Figure {
         name: "best sell 10000 alone",
-        inputs: ClosingInputs {
+        given: ClosingInputs {
             best_sell: Some(10_000),
             ..NOTHING
         },
     },
     // The survey alone.
-    ClosingFigure {
+    Figure {
         name: "survey of 4",
-        inputs: ClosingInputs {
+        given: ClosingInputs {
             survey: &[
                 SurveyPrice {
                     price: 9_000,
@@ -250,9 +244,9 @@ static FIGURES: [ClosingFigure; 60] = [
             ..NOTHING
         },
     },
-    ClosingFigure {
+    Figure {
         name: "survey of 5 around 10000",
-        inputs: ClosingInputs {
+        given: ClosingInputs {
             survey: &[
                 SurveyPrice {
                     price: 9_000,
@@ -278,9 +272,9 @@ static FIGURES: [ClosingFigure; 60] = [
             ..NOTHING
         },
     },
-    ClosingFigure {
+    Figure {
         name: "survey of 6 around 10000 and 10010",
-        inputs: ClosingInputs {
+        given: ClosingInputs {
             survey: &[
                 SurveyPrice {
                     price: 9_000,
@@ -310,9 +304,9 @@ static FIGURES: [ClosingFigure; 60] = [
             ..NOTHING
         },
     },
-    ClosingFigure {
+    Figure {
         name: "survey of 5 above the scarcity price",
-        inputs: ClosingInputs {
+        given: ClosingInputs {
             survey: &[SurveyPrice {
                 price: 40_000,
                 contributor: 1,
@@ -320,9 +314,9 @@ static FIGURES: [ClosingFigure; 60] = [
             ..NOTHING
         },
     },
-    ClosingFigure {
+    Figure {
         name: "survey of 64",
-        inputs: ClosingInputs {
+        given: ClosingInputs {
             survey: &[SurveyPrice {
                 price: 10_000,
                 contributor: 1,
@@ -330,9 +324,9 @@ static FIGURES: [ClosingFigure; 60] = [
             ..NOTHING
         },
     },
-    ClosingFigure {
+    Figure {
         name: "survey of 65",
-        inputs: ClosingInputs {
+        given: ClosingInputs {
             survey: &[SurveyPrice {
                 price: 10_000,
                 contributor: 1,
@@ -340,9 +334,9 @@ static FIGURES: [ClosingFigure; 60] = [
             ..NOTHING
         },
     },
-    ClosingFigure {
+    Figure {
         name: "survey that falls",
-        inputs: ClosingInputs {
+        given: ClosingInputs {
             survey: &[
                 SurveyPrice {
                     price: 10_010,
@@ -356,9 +350,9 @@ static FIGURES: [ClosingFigure; 60] = [
             ..NOTHING
         },
     },
-    ClosingFigure {
+    Figure {
         name: "survey whose codes fall",
-        inputs: ClosingInputs {
+        given: ClosingInputs {
             survey: &[
                 SurveyPrice {
                     price: 10_000,
@@ -373,44 +367,44 @@ static FIGURES: [ClosingFigure; 60] = [
         },
     },
     // The first criterion that serves gives the price.
-    ClosingFigure {
+    Figure {
         name: "everything",
-        inputs: EVERYTHING,
+        given: EVERYTHING,
     },
-    ClosingFigure {
+    Figure {
         name: "not today's",
-        inputs: ClosingInputs {
+        given: ClosingInputs {
             today: None,
             ..EVERYTHING
         },
     },
-    ClosingFigure {
+    Figure {
         name: "nor the last one's",
-        inputs: ClosingInputs {
+        given: ClosingInputs {
             out_of_market: true,
             ..EVERYTHING
         },
     },
-    ClosingFigure {
+    Figure {
         name: "nor trades",
-        inputs: ClosingInputs {
+        given: ClosingInputs {
             out_of_market: true,
             trades: &[],
             ..EVERYTHING
         },
     },
-    ClosingFigure {
+    Figure {
         name: "nor narrow best prices",
-        inputs: ClosingInputs {
+        given: ClosingInputs {
             out_of_market: true,
             trades: &[],
             best_sell: Some(19_010),
             ..EVERYTHING
         },
     },
-    ClosingFigure {
+    Figure {
         name: "nor a survey",
-        inputs: ClosingInputs {
+        given: ClosingInputs {
             out_of_market: true,
             trades: &[],
             best_sell: Some(19_010),
@@ -419,37 +413,45 @@ static FIGURES: [ClosingFigure; 60] = [
         },
     },
     // One fault, in each position. What would serve does not help.
-    ClosingFigure {
+    Figure {
         name: "today 0",
-        inputs: ClosingInputs {
+        given: ClosingInputs {
             today: Some(0),
             ..EVERYTHING
         },
     },
-    ClosingFigure {
+    Figure {
         name: "today 10000010",
-        inputs: ClosingInputs {
+        given: ClosingInputs {
             today: Some(10_000_010),
             ..EVERYTHING
         },
     },
-    ClosingFigure {
+    Figure {
         name: "today 11005",
-        inputs: ClosingInputs {
+        given: ClosingInputs {
             today: Some(11_005),
             ..EVERYTHING
         },
     },
-    ClosingFigure {
+    Figure {
+        name: "today 0 marked",
+        given: ClosingInputs {
+            today: Some(0),
+            out_of_market: true,
+            ..EVERYTHING
+        },
+    },
+    Figure {
         name: "last 0",
-        inputs: ClosingInputs {
+        given: ClosingInputs {
             last: Some(LastPrice { price: 0, age: 1 }),
             ..EVERYTHING
         },
     },
-    ClosingFigure {
+    Figure {
         name: "last 12005",
-        inputs: ClosingInputs {
+        given: ClosingInputs {
             last: Some(LastPrice {
                 price: 12_005,
                 age: 1,
@@ -457,9 +459,20 @@ static FIGURES: [ClosingFigure; 60] = [
             ..EVERYTHING
         },
     },
-    ClosingFigure {
+    Figure {
+        name: "last 10000010 marked",
+        given: ClosingInputs {
+            last: Some(LastPrice {
+                price: 10_000_010,
+                age: 1,
+            }),
+            out_of_market: true,
+            ..EVERYTHING
+        },
+    },
+    Figure {
         name: "trade of 0",
-        inputs: ClosingInputs {
+        given: ClosingInputs {
             trades: &[PricedTrade {
                 price: 13_000,
                 quantity: 0,
@@ -467,9 +480,9 @@ static FIGURES: [ClosingFigure; 60] = [
             ..EVERYTHING
         },
     },
-    ClosingFigure {
+    Figure {
         name: "trade of 6859",
-        inputs: ClosingInputs {
+        given: ClosingInputs {
             trades: &[PricedTrade {
                 price: 13_000,
                 quantity: 6_859,
@@ -477,9 +490,9 @@ static FIGURES: [ClosingFigure; 60] = [
             ..EVERYTHING
         },
     },
-    ClosingFigure {
+    Figure {
         name: "trade of 6858",
-        inputs: ClosingInputs {
+        given: ClosingInputs {
             trades: &[PricedTrade {
                 price: 13_000,
                 quantity: 6_858,
@@ -487,9 +500,9 @@ static FIGURES: [ClosingFigure; 60] = [
             ..EVERYTHING
         },
     },
-    ClosingFigure {
+    Figure {
         name: "trade at 0",
-        inputs: ClosingInputs {
+        given: ClosingInputs {
             trades: &[PricedTrade {
                 price: 0,
                 quantity: 1,
@@ -497,9 +510,9 @@ static FIGURES: [ClosingFigure; 60] = [
             ..EVERYTHING
         },
     },
-    ClosingFigure {
+    Figure {
         name: "trade at 13005",
-        inputs: ClosingInputs {
+        given: ClosingInputs {
             trades: &[PricedTrade {
                 price: 13_005,
                 quantity: 1,
@@ -507,37 +520,77 @@ static FIGURES: [ClosingFigure; 60] = [
             ..EVERYTHING
         },
     },
-    ClosingFigure {
+    Figure {
+        name: "third trade of 0",
+        given: ClosingInputs {
+            trades: &[
+                PricedTrade {
+                    price: 13_000,
+                    quantity: 1,
+                },
+                PricedTrade {
+                    price: 13_000,
+                    quantity: 1,
+                },
+                PricedTrade {
+                    price: 13_000,
+                    quantity: 0,
+                },
+            ],
+            ..EVERYTHING
+        },
+    },
+    Figure {
+        name: "third trade at 13005",
+        given: ClosingInputs {
+            trades: &[
+                PricedTrade {
+                    price: 13_000,
+                    quantity: 1,
+                },
+                PricedTrade {
+                    price: 13_000,
+                    quantity: 1,
+                },
+                PricedTrade {
+                    price: 13_005,
+                    quantity: 1,
+                },
+            ],
+            ..EVERYTHING
+        },
+    },
+    Figure {
         name: "best buy 0",
-        inputs: ClosingInputs {
+        given: ClosingInputs {
             best_buy: Some(0),
             ..EVERYTHING
         },
     },
-    ClosingFigure {
+    Figure {
         name: "best buy 14005",
-        inputs: ClosingInputs {
+        given: ClosingInputs {
             best_buy: Some(14_005),
             ..EVERYTHING
         },
     },
-    ClosingFigure {
+    Figure {
         name: "best sell 0",
-        inputs: ClosingInputs {
+        given: ClosingInputs {
             best_sell: Some(0),
             ..EVERYTHING
         },
     },
-    ClosingFigure {
+    Figure {
         name: "best sell 14005",
-        inputs: ClosingInputs {
+        given: ClosingInputs {
             best_sell: Some(14_005),
             ..EVERYTHING
         },
     },
-    ClosingFigure {
+    Figure {
         name: "survey price 0",
-        inputs: ClosingInputs {
+        given: ClosingInputs {
             survey: &[SurveyPrice {
                 price: 0,
                 contributor: 1,
@@ -545,9 +598,9 @@ static FIGURES: [ClosingFigure; 60] = [
             ..EVERYTHING
         },
     },
-    ClosingFigure {
+    Figure {
         name: "survey price 15005",
-        inputs: ClosingInputs {
+        given: ClosingInputs {
             survey: &[SurveyPrice {
                 price: 15_005,
                 contributor: 1,
@@ -555,10 +608,73 @@ static FIGURES: [ClosingFigure; 60] = [
             ..EVERYTHING
         },
     },
+    Figure {
+        name: "fifth survey price 10000010",
+        given: ClosingInputs {
+            survey: &[
+                SurveyPrice {
+                    price: 15_000,
+                    contributor: 1,
+                },
+                SurveyPrice {
+                    price: 15_000,
+                    contributor: 1,
+                },
+                SurveyPrice {
+                    price: 15_000,
+                    contributor: 1,
+                },
+                SurveyPrice {
+                    price: 15_000,
+                    contributor: 1,
+                },
+                SurveyPrice {
+                    price: 10_000_010,
+                    contributor: 1,
+                },
+            ],
+            ..EVERYTHING
+        },
+    },
+    Figure {
+        name: "fifth survey price 15005",
+        given: ClosingInputs {
+            survey: &[
+                SurveyPrice {
+                    price: 15_000,
+                    contributor: 1,
+                },
+                SurveyPrice {
+                    price: 15_000,
+                    contributor: 1,
+                },
+                SurveyPrice {
+                    price: 15_000,
+                    contributor: 1,
+                },
+                SurveyPrice {
+                    price: 15_000,
+                    contributor: 1,
+                },
+                SurveyPrice {
+                    price: 15_005,
+                    contributor: 1,
+                },
+            ],
+            ..EVERYTHING
+        },
+    },
     // Two faults: the one named first is answered.
-    ClosingFigure {
+    Figure {
+        name: "today 10000005, which is off the tick too",
+        given: ClosingInputs {
+            today: Some(10_000_005),
+            ..NOTHING
+        },
+    },
+    Figure {
         name: "survey of 65, today 0",
-        inputs: ClosingInputs {
+        given: ClosingInputs {
             today: Some(0),
             survey: &[SurveyPrice {
                 price: 10_000,
@@ -567,17 +683,61 @@ static FIGURES: [ClosingFigure; 60] = [
             ..NOTHING
         },
     },
-    ClosingFigure {
+    Figure {
+        name: "survey that falls, today 0",
+        given: ClosingInputs {
+            today: Some(0),
+            survey: &[
+                SurveyPrice {
+                    price: 10_010,
+                    contributor: 1,
+                },
+                SurveyPrice {
+                    price: 10_000,
+                    contributor: 2,
+                },
+            ],
+            ..NOTHING
+        },
+    },
+    Figure {
+        name: "survey that falls to 10005",
+        given: ClosingInputs {
+            survey: &[
+                SurveyPrice {
+                    price: 10_010,
+                    contributor: 1,
+                },
+                SurveyPrice {
+                    price: 10_005,
+                    contributor: 2,
+                },
+            ],
+            ..NOTHING
+        },
+    },
+    Figure {
+        name: "1025 trades, today 0",
+        given: ClosingInputs {
+            today: Some(0),
+            trades: &[PricedTrade {
+                price: 10_000,
+                quantity: 1,
+            }; 1_025],
+            ..NOTHING
+        },
+    },
+    Figure {
         name: "today 11005, last 0",
-        inputs: ClosingInputs {
+        given: ClosingInputs {
             today: Some(11_005),
             last: Some(LastPrice { price: 0, age: 0 }),
             ..NOTHING
         },
     },
-    ClosingFigure {
+    Figure {
         name: "last 12005, trade of 0",
-        inputs: ClosingInputs {
+        given: ClosingInputs {
             last: Some(LastPrice {
                 price: 12_005,
                 age: 0,
@@ -589,9 +749,9 @@ static FIGURES: [ClosingFigure; 60] = [
             ..NOTHING
         },
     },
-    ClosingFigure {
+    Figure {
         name: "trade of 0 at 0",
-        inputs: ClosingInputs {
+        given: ClosingInputs {
             trades: &[PricedTrade {
                 price: 0,
                 quantity: 0,
@@ -599,9 +759,9 @@ static FIGURES: [ClosingFigure; 60] = [
             ..NOTHING
         },
     },
-    ClosingFigure {
+    Figure {
         name: "trade at 13005, trade of 0",
-        inputs: ClosingInputs {
+        given: ClosingInputs {
             trades: &[
                 PricedTrade {
                     price: 13_005,
@@ -615,9 +775,9 @@ static FIGURES: [ClosingFigure; 60] = [
             ..NOTHING
         },
     },
-    ClosingFigure {
+    Figure {
         name: "trade of 0, best buy 0",
-        inputs: ClosingInputs {
+        given: ClosingInputs {
             trades: &[PricedTrade {
                 price: 13_000,
                 quantity: 0,
@@ -626,17 +786,17 @@ static FIGURES: [ClosingFigure; 60] = [
             ..NOTHING
         },
     },
-    ClosingFigure {
+    Figure {
         name: "best buy 14005, best sell 0",
-        inputs: ClosingInputs {
+        given: ClosingInputs {
             best_buy: Some(14_005),
             best_sell: Some(0),
             ..NOTHING
         },
     },
-    ClosingFigure {
+    Figure {
         name: "best sell 14005, survey price 0",
-        inputs: ClosingInputs {
+        given: ClosingInputs {
             best_sell: Some(14_005),
             survey: &[SurveyPrice {
                 price: 0,
@@ -645,9 +805,9 @@ static FIGURES: [ClosingFigure; 60] = [
             ..NOTHING
         },
     },
-    ClosingFigure {
+    Figure {
         name: "survey price 0, no criterion",
-        inputs: ClosingInputs {
+        given: ClosingInputs {
             survey: &[SurveyPrice {
                 price: 0,
                 contributor: 1,
@@ -656,9 +816,9 @@ static FIGURES: [ClosingFigure; 60] = [
         },
     },
     // The most trades, with the largest sums, and one more.
-    ClosingFigure {
+    Figure {
         name: "1024 trades of 6858 at 10000000",
-        inputs: ClosingInputs {
+        given: ClosingInputs {
             trades: &[PricedTrade {
                 price: 10_000_000,
                 quantity: 6_858,
@@ -666,9 +826,9 @@ static FIGURES: [ClosingFigure; 60] = [
             ..NOTHING
         },
     },
-    ClosingFigure {
+    Figure {
         name: "1025 trades",
-        inputs: ClosingInputs {
+        given: ClosingInputs {
             trades: &[PricedTrade {
                 price: 10_000,
                 quantity: 1,
@@ -678,15 +838,25 @@ static FIGURES: [ClosingFigure; 60] = [
     },
 ];
 
-/// Prints each figure with its closing price.
-pub(crate) fn show_all(rt: &HostRuntime, session: Session) -> anyhow::Result<()> {
-    for figure in &FIGURES {
-        let name = figure.name;
-        print!(rt; "closing, {name}: ")?;
-        match closing_price(session, figure.inputs) {
-            Ok(price) => println!(rt; "{price}")?,
-            Err(why) => show_refused(rt, why)?,
-        }
+/// Ends a line with the closing price.
+fn show_price(
+    rt: &HostRuntime,
+    session: Session,
+    inputs: ClosingInputs<'static>,
+) -> anyhow::Result<()> {
+    match closing_price(session, inputs) {
+        Ok(price) => println!(rt; "{price}")?,
+        Err(why) => show_refused(rt, why)?,
     }
     Ok(())
+}
+
+/// Prints each figure with its closing price.
+pub(crate) fn show_all(rt: &HostRuntime, session: Session) -> anyhow::Result<()> {
+    show_figures(
+        rt,
+        "closing",
+        &FIGURES,
+        |inputs| show_price(rt, session, inputs),
+    )
 }

@@ -126,6 +126,70 @@ static LONG: [Step; 7] = [
     },
 ];
 
+/// A contribution to a run of no places.
+const TO_NO_PLACES: Step = Step {
+    used: 0,
+    item: SurveyPrice {
+        price: 10_000,
+        contributor: 1,
+    },
+};
+
+/// Three places used out of rank.
+const UNRANKED: [SurveyPrice; 4] = [
+    SurveyPrice {
+        price: 10_020,
+        contributor: 1,
+    },
+    SurveyPrice {
+        price: 10_000,
+        contributor: 2,
+    },
+    SurveyPrice {
+        price: 10_010,
+        contributor: 3,
+    },
+    EMPTY,
+];
+
+/// A contribution that goes before the first of them and not before the second.
+const TO_UNRANKED: Step = Step {
+    used: 3,
+    item: SurveyPrice {
+        price: 10_010,
+        contributor: 1,
+    },
+};
+
+/// One place used, with something in the others.
+const LATER: [SurveyPrice; 4] = [
+    SurveyPrice {
+        price: 10_000,
+        contributor: 2,
+    },
+    SurveyPrice {
+        price: 20_000,
+        contributor: 5,
+    },
+    SurveyPrice {
+        price: 20_010,
+        contributor: 6,
+    },
+    SurveyPrice {
+        price: 20_020,
+        contributor: 7,
+    },
+];
+
+/// A contribution that goes behind that place.
+const TO_LATER: Step = Step {
+    used: 1,
+    item: SurveyPrice {
+        price: 10_010,
+        contributor: 1,
+    },
+};
+
 /// Takes the steps and prints what each answers.
 fn take_steps(
     rt: &HostRuntime,
@@ -159,11 +223,24 @@ fn show_places(rt: &HostRuntime, run: &[SurveyPrice]) -> anyhow::Result<()> {
     Ok(())
 }
 
-/// Prints each step in turn, and the short run after them.
+/// Takes the steps, and prints the run after them.
+fn take_and_show(
+    rt: &HostRuntime,
+    session: Session,
+    run: &mut [SurveyPrice],
+    steps: &[Step],
+) -> anyhow::Result<()> {
+    take_steps(rt, session, run, steps)?;
+    show_places(rt, run)
+}
+
+/// Prints each step in turn, and what it leaves of the short runs.
 pub(crate) fn show_all(rt: &HostRuntime, session: Session) -> anyhow::Result<()> {
-    let mut short = [EMPTY; 4];
-    take_steps(rt, session, &mut short, &SHORT)?;
-    show_places(rt, &short)?;
-    let mut long = [EMPTY; 100];
-    take_steps(rt, session, &mut long, &LONG)
+    take_and_show(rt, session, &mut [EMPTY; 4], &SHORT)?;
+    take_steps(rt, session, &mut [EMPTY; 100], &LONG)?;
+    take_steps(rt, session, &mut [], &[TO_NO_PLACES])?;
+    let mut unranked = UNRANKED;
+    take_and_show(rt, session, &mut unranked, &[TO_UNRANKED])?;
+    let mut later = LATER;
+    take_and_show(rt, session, &mut later, &[TO_LATER])
 }

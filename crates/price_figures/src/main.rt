@@ -3,6 +3,7 @@
 
 mod closings;
 mod contributions;
+mod figures;
 mod refused;
 mod registrations;
 
@@ -11,9 +12,7 @@ use session::Session;
 
 /// Everything at a tick of 10 and a scarcity price of 30,000.
 fn run(rt: &HostRuntime) -> anyhow::Result<()> {
-    let Ok(session) = Session::open(10, 30_000) else {
-        return Err(anyhow!("no session"));
-    };
+    let session = Session::open(10, 30_000).map_err(|why| anyhow!("refused {}", u8::from(why)))?;
     contributions::show_all(rt, session)?;
     closings::show_all(rt, session)?;
     registrations::show_all(rt, session)

@@ -1,4 +1,5 @@
 // Figures of the registration verdict.
+use crate::figures::{Figure, show_figures};
 use crate::refused::show_refused;
 use registration::{BestPrice, Registration, verdict};
 use session::Session;
@@ -51,129 +52,122 @@ const EVERYTHING: Registration = Registration {
     ..BEST
 };
 
-/// What is asked, with its name.
-#[derive(Clone, Copy)]
-struct VerdictFigure {
-    name: &'static str,
-    asked: Registration,
-}
-
 /// Everything at a tick of 10 and a scarcity price of 30,000.
-static FIGURES: [VerdictFigure; 46] = [
+static FIGURES: [Figure<'static, Registration>; 47] = [
     // The ends of each band.
-    VerdictFigure {
+    Figure {
         name: "8900 by best 10000 and 10200",
-        asked: Registration {
+        given: Registration {
             price: 8_900,
             ..BEST
         },
     },
-    VerdictFigure {
+    Figure {
         name: "11320 by best 10000 and 10200",
-        asked: Registration {
+        given: Registration {
             price: 11_320,
             ..BEST
         },
     },
-    VerdictFigure {
+    Figure {
         name: "8890 by best 10000 and 10200",
-        asked: Registration {
+        given: Registration {
             price: 8_890,
             ..BEST
         },
     },
-    VerdictFigure {
+    Figure {
         name: "11330 by best 10000 and 10200",
-        asked: Registration {
+        given: Registration {
             price: 11_330,
             ..BEST
         },
     },
-    VerdictFigure {
+    Figure {
         name: "7800 by last 10000",
-        asked: Registration {
+        given: Registration {
             price: 7_800,
             ..LAST
         },
     },
-    VerdictFigure {
+    Figure {
         name: "12200 by last 10000",
-        asked: Registration {
+        given: Registration {
             price: 12_200,
             ..LAST
         },
     },
-    VerdictFigure {
+    Figure {
         name: "7790 by last 10000",
-        asked: Registration {
+        given: Registration {
             price: 7_790,
             ..LAST
         },
     },
-    VerdictFigure {
+    Figure {
         name: "12210 by last 10000",
-        asked: Registration {
+        given: Registration {
             price: 12_210,
             ..LAST
         },
     },
-    VerdictFigure {
+    Figure {
         name: "7800 by reference 10000",
-        asked: Registration {
+        given: Registration {
             price: 7_800,
             ..REFERENCE
         },
     },
-    VerdictFigure {
+    Figure {
         name: "12200 by reference 10000",
-        asked: Registration {
+        given: Registration {
             price: 12_200,
             ..REFERENCE
         },
     },
-    VerdictFigure {
+    Figure {
         name: "7790 by reference 10000",
-        asked: Registration {
+        given: Registration {
             price: 7_790,
             ..REFERENCE
         },
     },
-    VerdictFigure {
+    Figure {
         name: "12210 by reference 10000",
-        asked: Registration {
+        given: Registration {
             price: 12_210,
             ..REFERENCE
         },
     },
     // The first criterion that applies decides, and later ones are not tried.
-    VerdictFigure {
+    Figure {
         name: "8890 by best, though the last trade would take it",
-        asked: Registration {
+        given: Registration {
             price: 8_890,
             ..EVERYTHING
         },
     },
-    VerdictFigure {
+    Figure {
         name: "8890 of 101, which is more than the buys",
-        asked: Registration {
+        given: Registration {
             price: 8_890,
             quantity: 101,
             best_sell: Some(BestPrice { depth: 200, ..SELL }),
             ..EVERYTHING
         },
     },
-    VerdictFigure {
+    Figure {
         name: "8890 of 101, which is more than the sells",
-        asked: Registration {
+        given: Registration {
             price: 8_890,
             quantity: 101,
             best_buy: Some(BestPrice { depth: 200, ..BUY }),
             ..EVERYTHING
         },
     },
-    VerdictFigure {
+    Figure {
         name: "8890 of 101, deep enough",
-        asked: Registration {
+        given: Registration {
             price: 8_890,
             quantity: 101,
             best_buy: Some(BestPrice { depth: 101, ..BUY }),
@@ -181,40 +175,40 @@ static FIGURES: [VerdictFigure; 46] = [
             ..EVERYTHING
         },
     },
-    VerdictFigure {
+    Figure {
         name: "8890 without a best buy",
-        asked: Registration {
+        given: Registration {
             price: 8_890,
             best_buy: None,
             ..EVERYTHING
         },
     },
-    VerdictFigure {
+    Figure {
         name: "8890 without a best sell",
-        asked: Registration {
+        given: Registration {
             price: 8_890,
             best_sell: None,
             ..EVERYTHING
         },
     },
-    VerdictFigure {
+    Figure {
         name: "10000 by last 20000, though the reference would take it",
-        asked: Registration {
+        given: Registration {
             last_trade: Some(20_000),
             ..REFERENCE
         },
     },
-    VerdictFigure {
+    Figure {
         name: "10000 by reference, depths 0",
-        asked: Registration {
+        given: Registration {
             best_buy: Some(BestPrice { depth: 0, ..BUY }),
             best_sell: Some(BestPrice { depth: 0, ..SELL }),
             ..REFERENCE
         },
     },
-    VerdictFigure {
+    Figure {
         name: "10000 by best, depths 4294967295",
-        asked: Registration {
+        given: Registration {
             best_buy: Some(BestPrice {
                 depth: 4_294_967_295,
                 ..BUY
@@ -226,63 +220,70 @@ static FIGURES: [VerdictFigure; 46] = [
             ..BEST
         },
     },
-    VerdictFigure {
+    Figure {
         name: "10000 by nothing",
-        asked: NOTHING,
+        given: NOTHING,
     },
     // One fault, in each position.
-    VerdictFigure {
+    Figure {
         name: "quantity 0",
-        asked: Registration {
+        given: Registration {
             quantity: 0,
             ..EVERYTHING
         },
     },
-    VerdictFigure {
+    Figure {
         name: "quantity 1",
-        asked: Registration {
+        given: Registration {
             quantity: 1,
             ..EVERYTHING
         },
     },
-    VerdictFigure {
+    Figure {
         name: "quantity 1000000",
-        asked: Registration {
+        given: Registration {
             quantity: 1_000_000,
             ..EVERYTHING
         },
     },
-    VerdictFigure {
+    Figure {
         name: "quantity 1000001",
-        asked: Registration {
+        given: Registration {
             quantity: 1_000_001,
             ..EVERYTHING
         },
     },
-    VerdictFigure {
+    Figure {
         name: "price 0",
-        asked: Registration {
+        given: Registration {
             price: 0,
             ..EVERYTHING
         },
     },
-    VerdictFigure {
+    Figure {
         name: "price 10005",
-        asked: Registration {
+        given: Registration {
             price: 10_005,
             ..EVERYTHING
         },
     },
-    VerdictFigure {
+    Figure {
+        name: "price 10000005, which is off the tick too",
+        given: Registration {
+            price: 10_000_005,
+            ..BEST
+        },
+    },
+    Figure {
         name: "best buy 0",
-        asked: Registration {
+        given: Registration {
             best_buy: Some(BestPrice { price: 0, ..BUY }),
             ..EVERYTHING
         },
     },
-    VerdictFigure {
+    Figure {
         name: "best buy 10005",
-        asked: Registration {
+        given: Registration {
             best_buy: Some(BestPrice {
                 price: 10_005,
                 ..BUY
@@ -290,9 +291,9 @@ static FIGURES: [VerdictFigure; 46] = [
             ..EVERYTHING
         },
     },
-    VerdictFigure {
+    Figure {
         name: "best sell 10000010",
-        asked: Registration {
+        given: Registration {
             best_sell: Some(BestPrice {
                 price: 10_000_010,
                 ..SELL
@@ -300,9 +301,9 @@ static FIGURES: [VerdictFigure; 46] = [
             ..EVERYTHING
         },
     },
-    VerdictFigure {
+    Figure {
         name: "best sell 10005",
-        asked: Registration {
+        given: Registration {
             best_sell: Some(BestPrice {
                 price: 10_005,
                 ..SELL
@@ -310,70 +311,70 @@ static FIGURES: [VerdictFigure; 46] = [
             ..EVERYTHING
         },
     },
-    VerdictFigure {
+    Figure {
         name: "last 0",
-        asked: Registration {
+        given: Registration {
             last_trade: Some(0),
             ..EVERYTHING
         },
     },
-    VerdictFigure {
+    Figure {
         name: "last 10005",
-        asked: Registration {
+        given: Registration {
             last_trade: Some(10_005),
             ..EVERYTHING
         },
     },
-    VerdictFigure {
+    Figure {
         name: "reference 0",
-        asked: Registration {
+        given: Registration {
             reference: Some(0),
             ..EVERYTHING
         },
     },
-    VerdictFigure {
+    Figure {
         name: "reference 10005",
-        asked: Registration {
+        given: Registration {
             reference: Some(10_005),
             ..EVERYTHING
         },
     },
-    VerdictFigure {
+    Figure {
         name: "price 30000 by reference 30000",
-        asked: Registration {
+        given: Registration {
             price: 30_000,
             reference: Some(30_000),
             ..NOTHING
         },
     },
-    VerdictFigure {
+    Figure {
         name: "price 30010 by reference 30000",
-        asked: Registration {
+        given: Registration {
             price: 30_010,
             reference: Some(30_000),
             ..NOTHING
         },
     },
     // Two faults: the one named first is answered.
-    VerdictFigure {
+    Figure {
         name: "quantity 0, price 0",
-        asked: Registration {
+        given: Registration {
             quantity: 0,
             price: 0,
             ..NOTHING
         },
     },
-    VerdictFigure {
+    Figure {
         name: "price 10005, best buy 0",
-        asked: Registration {
+        given: Registration {
             price: 10_005,
             best_buy: Some(BestPrice { price: 0, ..BUY }),
             ..NOTHING
         },
     },
-    VerdictFigure {
+    Figure {
         name: "best buy 10005, best sell 0",
-        asked: Registration {
+        given: Registration {
             best_buy: Some(BestPrice {
                 price: 10_005,
                 ..BUY
@@ -382,9 +383,9 @@ static FIGURES: [VerdictFigure; 46] = [
             ..NOTHING
         },
     },
-    VerdictFigure {
+    Figure {
         name: "best sell 10005, last 0",
-        asked: Registration {
+        given: Registration {
             best_sell: Some(BestPrice {
                 price: 10_005,
                 ..SELL
@@ -393,47 +394,53 @@ static FIGURES: [VerdictFigure; 46] = [
             ..NOTHING
         },
     },
-    VerdictFigure {
+    Figure {
         name: "last 10005, reference 0",
-        asked: Registration {
+        given: Registration {
             last_trade: Some(10_005),
             reference: Some(0),
             ..NOTHING
         },
     },
-    VerdictFigure {
+    Figure {
         name: "price 30010, reference 10005",
-        asked: Registration {
+        given: Registration {
             price: 30_010,
             reference: Some(10_005),
             ..NOTHING
         },
     },
-    VerdictFigure {
+    Figure {
         name: "price 30010, far from reference 10000",
-        asked: Registration {
+        given: Registration {
             price: 30_010,
             ..REFERENCE
         },
     },
-    VerdictFigure {
+    Figure {
         name: "price 30010, by nothing",
-        asked: Registration {
+        given: Registration {
             price: 30_010,
             ..NOTHING
         },
     },
 ];
 
-/// Prints each figure with its verdict.
-pub(crate) fn show_all(rt: &HostRuntime, session: Session) -> anyhow::Result<()> {
-    for figure in &FIGURES {
-        let name = figure.name;
-        print!(rt; "registration, {name}: ")?;
-        match verdict(session, figure.asked) {
-            Ok(criterion) => println!(rt; "accepted by {}", u8::from(criterion))?,
-            Err(why) => show_refused(rt, why)?,
-        }
+/// Ends a line with the verdict.
+fn show_verdict(rt: &HostRuntime, session: Session, asked: Registration) -> anyhow::Result<()> {
+    match verdict(session, asked) {
+        Ok(criterion) => println!(rt; "accepted by {}", u8::from(criterion))?,
+        Err(why) => show_refused(rt, why)?,
     }
     Ok(())
+}
+
+/// Prints each figure with its verdict.
+pub(crate) fn show_all(rt: &HostRuntime, session: Session) -> anyhow::Result<()> {
+    show_figures(
+        rt,
+        "registration",
+        &FIGURES,
+        |asked| show_verdict(rt, session, asked),
+    )
 }

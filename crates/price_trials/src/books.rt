@@ -1,11 +1,11 @@
 // Generated books: both makes against the calculator.
-use book::OrderBook;
 use calculator::{Ending, PlainOrder, Source, calculate, fill, order};
 use ladder::Ladder;
 use price::{Indication, indication};
 use session::{Session, SessionRefusal};
 use std::alloc::{AllocError, Global};
 use table::Table;
+use trials::Make;
 
 /// The prices of a generated book, in ticks.
 const PRICES: u32 = 12;
@@ -36,27 +36,31 @@ fn random_orders(heap: Global, source: &mut Source) -> Result<Vec<PlainOrder>, A
     (0..count).map(|_| random_order(source)).collect(heap)
 }
 
-/// Whether a book answers what the calculator does.
-fn agrees<B: OrderBook>(book: &B, session: Session, told: Option<Indication>) -> bool {
-    indication(book, session) == told.ok_or(SessionRefusal::NoVolume)
+/// Whether a make that holds the orders answers something else than the calculator.
+fn is_apart<B: Make>(
+    heap: Global,
+    orders: &[PlainOrder],
+    session: Session,
+    told: Option<Indication>,
+) -> Result<bool, AllocError> {
+    let mut book = B::fresh(heap, orders.len())?;
+    fill(&mut book, orders);
+    Ok(indication(&book, session) != told.ok_or(SessionRefusal::NoVolume))
 }
 
 /// One generated book, on both makes.
-// Each make is asked for by its own `new`, which wants other numbers; what is tried of it is one text.
 fn try_book(heap: Global, source: &mut Source) -> Result<Outcome, AllocError> {
     let orders = random_orders(heap, source)?;
     let tick = source.below(3) + 1;
     let scarcity = source.below(PRICES * 4) + 1;
     let session = Session::open(tick, scarcity).unwrap();
     let (ending, told) = calculate(&orders, tick, scarcity).unzip();
-    let mut table = Table::new(heap, orders.len())?;
-    fill(&mut table, &orders);
-    let mut ladder = Ladder::new(heap, orders.len(), orders.len())?;
-    fill(&mut ladder, &orders);
+    let table_apart = is_apart::<Table>(heap, &orders, session, told)?;
+    let ladder_apart = is_apart::<Ladder>(heap, &orders, session, told)?;
     Ok(Outcome {
         ending,
         capped: told.is_some_and(|told| told.price == scarcity / tick * tick),
-        apart: !agrees(&table, session, told) || !agrees(&ladder, session, told),
+        apart: table_apart || ladder_apart,
     })
 }
 

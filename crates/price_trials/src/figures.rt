@@ -1,7 +1,6 @@
 // The worked figures and books at the ends of the ranges, on both makes.
 ghost use Rattle.price_trials.specs.Figures.{AuctionFigures};
 
-use book::OrderBook;
 use book::Side::{Buy, Sell};
 use calculator::{PlainOrder, fill, order};
 use ladder::Ladder;
@@ -9,35 +8,33 @@ use price::indication;
 use session::Session;
 use std::alloc::{AllocError, Global};
 use table::Table;
+use trials::Make;
 
 /// One buy and one sell, each by its quantity and its limit.
 fn pair(bought: u32, buy: u32, sold: u32, sell: u32) -> [PlainOrder; 2] {
     [order(Buy, bought, buy), order(Sell, sold, sell)]
 }
 
-/// What a book answers in a session, as text.
-fn answer<B: OrderBook>(
+/// What a make that holds the orders answers in a session, as text.
+fn answer<B: Make>(
     heap: Global,
-    book: &B,
+    orders: &[PlainOrder],
     tick: u32,
     scarcity: u32,
 ) -> Result<String, AllocError> {
-    match Session::open(tick, scarcity).and_then(|session| indication(book, session)) {
+    let mut book = B::fresh(heap, 256)?;
+    fill(&mut book, orders);
+    match Session::open(tick, scarcity).and_then(|session| indication(&book, session)) {
         Ok(told) => format!(in heap; "{} {} {}", told.price, told.volume, told.imbalance),
         Err(why) => format!(in heap; "refused {}", u8::from(why)),
     }
 }
 
 /// Prints what a table and a ladder of these orders answer.
-// Each make is asked for by its own `new`, which wants other numbers; what is tried of it is one text.
 fn show(rt: &HostRuntime, orders: &[PlainOrder], tick: u32, scarcity: u32) -> anyhow::Result<()> {
-    let mut table = Table::new(rt.alloc(), 256)?;
-    fill(&mut table, orders);
-    let mut ladder = Ladder::new(rt.alloc(), 256, 256)?;
-    fill(&mut ladder, orders);
-    let first = answer(rt.alloc(), &table, tick, scarcity)?;
-    let second = answer(rt.alloc(), &ladder, tick, scarcity)?;
-    println!(rt; "{first} | {second}")?;
+    let table = answer::<Table>(rt.alloc(), orders, tick, scarcity)?;
+    let ladder = answer::<Ladder>(rt.alloc(), orders, tick, scarcity)?;
+    println!(rt; "{table} | {ladder}")?;
     Ok(())
 }
 

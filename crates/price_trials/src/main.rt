@@ -8,25 +8,12 @@ mod figures;
 use books::{Outcome, try_books};
 use calculator::Ending;
 use figures::{run_crowds, run_ends, run_figures};
+use trials::show_count;
 
 /// Where the generated numbers start.
 const SEED: u64 = 20_261_118;
 /// How many books are generated.
 const BOOKS: u32 = 20_000;
-
-/// Prints how many of the outcomes a test holds of.
-fn show_count<F: Fn(&Outcome) -> bool>(
-    rt: &HostRuntime,
-    words: &str,
-    outcomes: &[Outcome],
-    counts: F,
-) -> anyhow::Result<()>
-    requires { F.IsAlwaysCallable counts }
-{
-    let count = outcomes.iter().filter(|outcome| counts(outcome)).count();
-    println!(rt; "{words} {count}")?;
-    Ok(())
-}
 
 fn run_books(rt: &HostRuntime) -> anyhow::Result<()> {
     let outcomes = try_books(rt.alloc(), SEED, BOOKS)?;
@@ -51,7 +38,8 @@ fn run_books(rt: &HostRuntime) -> anyhow::Result<()> {
         "a make and the calculator differ",
         &outcomes,
         |outcome| { outcome.apart },
-    )
+    )?;
+    Ok(())
 }
 
 fn run(rt: &HostRuntime) -> anyhow::Result<()> {

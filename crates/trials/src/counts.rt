@@ -1,0 +1,33 @@
+// Counts of what came of a trial, as text.
+ghost use Rattle.std.specs.Prelude.{◌≡◌, count_by, Bool};
+ghost use Rattle.std.specs.Fn.{FnReturnsAt};
+ghost use Rattle.trials.specs.Counts.{Computes};
+
+use std::io;
+
+/// How many of the items a test holds of.
+pub fn how_many<T, F: Fn(&T) -> bool>(items: &[T], counts: F) -> usize
+    requires { F.IsAlwaysCallable counts }
+    ensures { (test : T → Bool) → Computes (FnReturnsAt F.Fn counts) test items.now → result ≡ count_by test items.now }
+{
+    // A `for` and no chain: of a chain's filter nothing is known of what it leaves out.
+    let mut count = 0usize;
+    for item in items {
+        if counts(item) {
+            count += 1;
+        }
+    }
+    count
+}
+
+/// Prints a line of these words and of how many of the items a test holds of.
+pub fn show_count<T, F: Fn(&T) -> bool>(
+    rt: &impl Print,
+    words: &str,
+    items: &[T],
+    counts: F,
+) -> io::Result<()>
+    requires { F.IsAlwaysCallable counts }
+{
+    println!(rt; "{words} {}", how_many(items, counts))
+}
