@@ -1,6 +1,6 @@
 """The auction in the plainest way: every admissible price is tried, and trades are paired order by order.
 
-Written from docs/RULES.md and docs/ENGINE.md alone, with exact fractions; `calls.py` and `feeds.py` beside it use it.
+Written from docs/RULES.md and docs/ENGINE.md alone, with exact fractions; the scripts beside it use it.
 """
 from fractions import Fraction
 from math import floor
@@ -13,34 +13,41 @@ class Refused(Exception):
         self.number = number
 
 
-def equilibrium(orders, tick, scarcity):
-    """The price in centavos with its volume and imbalance, or nothing."""
+def rows_of(orders, tick, scarcity):
+    """Each admissible price in centavos, with its volume and imbalance."""
     rows = []
     for price in range(tick, scarcity + 1, tick):
         bought = sum(o["quantity"] for o in orders if o["side"] == "buy" and o["price"] >= price)
         sold = sum(o["quantity"] for o in orders if o["side"] == "sell" and o["price"] <= price)
         rows.append((price, min(bought, sold), bought - sold))
+    return rows
+
+
+def ending(rows, tick):
+    """How the rule ends, and the price that it gives."""
     volume = max((v for _, v, _ in rows), default=0)
     if volume == 0:
-        return None
-    imbalances = {price: i for price, v, i in rows if v == volume}
-    price = tie_rule(imbalances, tick)
-    return price, volume, imbalances[price]
-
-
-def tie_rule(imbalances, tick):
-    """The price among those of largest volume, each with its imbalance."""
-    least = min(abs(i) for i in imbalances.values())
-    kept = [p for p, i in imbalances.items() if abs(i) == least]
-    positive = [p for p in kept if imbalances[p] > 0]
-    negative = [p for p in kept if imbalances[p] < 0]
+        return "nothing trades", None
+    rows = [row for row in rows if row[1] == volume]
+    least = min(abs(i) for _, _, i in rows)
+    kept = [(p, i) for p, _, i in rows if abs(i) == least]
+    positive = [p for p, i in kept if i > 0]
+    negative = [p for p, i in kept if i < 0]
     if positive and negative:
-        return nearest(max(positive), min(negative), tick)
+        return "both signs", nearest(max(positive), min(negative), tick)
     if positive:
-        return max(positive)
+        return "all imbalances positive", max(positive)
     if negative:
-        return min(negative)
-    return nearest(min(kept), max(kept), tick)
+        return "all imbalances negative", min(negative)
+    prices = [p for p, _ in kept]
+    return "all imbalances zero", nearest(min(prices), max(prices), tick)
+
+
+def equilibrium(orders, tick, scarcity):
+    """The price in centavos with its volume and imbalance, or nothing."""
+    rows = rows_of(orders, tick, scarcity)
+    price = ending(rows, tick)[1]
+    return next((row for row in rows if row[0] == price), None)
 
 
 def nearest(a, b, tick):

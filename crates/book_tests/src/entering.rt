@@ -1,7 +1,7 @@
 // Entering: numbers in turn, full books, and numbers that are never given again.
 use crate::orders::{body, seen};
 use book::Side::{Buy, Sell};
-use book::{BookRefusal, OrderBook};
+use book::{BookRefusal, OrderBook, Side};
 use std::alloc::Global;
 use std::process::Abort;
 use std::test::Fail;
@@ -76,12 +76,17 @@ pub(crate) fn no_places<B: OrderBook>(rt: &impl Abort, book: &mut B) -> Result<(
     Ok(())
 }
 
-/// A fresh book has as many places as it should, and each can be taken.
-pub(crate) fn offers<B: OrderBook>(rt: &impl Abort, book: &mut B, places: u32) -> Result<(), Fail> {
+/// A fresh book has as many places as it should, and the orders of one side can take each.
+pub(crate) fn offers<B: OrderBook>(
+    rt: &impl Abort,
+    book: &mut B,
+    side: Side,
+    places: u32,
+) -> Result<(), Fail> {
     assert_eq!(rt; book.places(), places as usize);
     assert_eq!(rt; book.last(), 0);
     for number in 1..=places {
-        assert_eq!(rt; book.enter(body(Sell, number, 1)?), Ok(number));
+        assert_eq!(rt; book.enter(body(side, number, 1)?), Ok(number));
     }
     assert_eq!(rt; book.enter(body(Sell, 1, 1)?), Err(BookRefusal::Full));
     assert_eq!(rt; book.enter(body(Buy, 1, 1)?), Err(BookRefusal::Full));

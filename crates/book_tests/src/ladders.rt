@@ -1,5 +1,6 @@
 // Ladders on the scripted calls.
 use crate::{cutting, entering, limits, numbers, ranks, tops};
+use book::Side::{Buy, Sell};
 use ladder::Ladder;
 use std::test::Fail;
 
@@ -22,17 +23,24 @@ fn a_ladder_of_no_places_refuses_the_first_entry(rt: HostRuntime) -> Result<(), 
 
 #[test]
 fn a_ladder_offers_the_places_of_its_shorter_run(rt: HostRuntime) -> Result<(), Fail> {
-    entering::offers(&rt, &mut Ladder::new(rt.alloc(), 3, 5)?, 3)?;
-    entering::offers(&rt, &mut Ladder::new(rt.alloc(), 5, 3)?, 3)?;
-    entering::offers(&rt, &mut Ladder::new(rt.alloc(), 1, 400)?, 1)?;
-    entering::offers(&rt, &mut Ladder::new(rt.alloc(), 255, 256)?, 255)
+    entering::offers(&rt, &mut Ladder::new(rt.alloc(), 3, 5)?, Sell, 3)?;
+    entering::offers(&rt, &mut Ladder::new(rt.alloc(), 5, 3)?, Sell, 3)?;
+    entering::offers(&rt, &mut Ladder::new(rt.alloc(), 1, 400)?, Sell, 1)?;
+    entering::offers(&rt, &mut Ladder::new(rt.alloc(), 255, 256)?, Sell, 255)
+}
+
+#[test]
+fn buys_can_take_each_place_of_a_ladder(rt: HostRuntime) -> Result<(), Fail> {
+    entering::offers(&rt, &mut Ladder::new(rt.alloc(), 3, 5)?, Buy, 3)?;
+    entering::offers(&rt, &mut Ladder::new(rt.alloc(), 5, 3)?, Buy, 3)?;
+    entering::offers(&rt, &mut Ladder::new(rt.alloc(), 300, 400)?, Buy, 256)
 }
 
 #[test]
 fn a_ladder_offers_at_most_256_places(rt: HostRuntime) -> Result<(), Fail> {
-    entering::offers(&rt, &mut Ladder::new(rt.alloc(), 256, 256)?, 256)?;
-    entering::offers(&rt, &mut Ladder::new(rt.alloc(), 257, 257)?, 256)?;
-    entering::offers(&rt, &mut Ladder::new(rt.alloc(), 300, 400)?, 256)
+    entering::offers(&rt, &mut Ladder::new(rt.alloc(), 256, 256)?, Sell, 256)?;
+    entering::offers(&rt, &mut Ladder::new(rt.alloc(), 257, 257)?, Sell, 256)?;
+    entering::offers(&rt, &mut Ladder::new(rt.alloc(), 300, 400)?, Sell, 256)
 }
 
 #[test]

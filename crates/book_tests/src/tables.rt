@@ -1,5 +1,6 @@
 // Tables on the scripted calls.
 use crate::{cutting, entering, limits, numbers, ranks, tops};
+use book::Side::{Buy, Sell};
 use std::test::Fail;
 use table::Table;
 
@@ -20,15 +21,21 @@ fn a_table_of_no_places_refuses_the_first_entry(rt: HostRuntime) -> Result<(), F
 
 #[test]
 fn a_table_offers_the_places_of_its_run(rt: HostRuntime) -> Result<(), Fail> {
-    entering::offers(&rt, &mut Table::new(rt.alloc(), 1)?, 1)?;
-    entering::offers(&rt, &mut Table::new(rt.alloc(), 255)?, 255)
+    entering::offers(&rt, &mut Table::new(rt.alloc(), 1)?, Sell, 1)?;
+    entering::offers(&rt, &mut Table::new(rt.alloc(), 255)?, Sell, 255)
+}
+
+#[test]
+fn buys_can_take_each_place_of_a_table(rt: HostRuntime) -> Result<(), Fail> {
+    entering::offers(&rt, &mut Table::new(rt.alloc(), 1)?, Buy, 1)?;
+    entering::offers(&rt, &mut Table::new(rt.alloc(), 300)?, Buy, 256)
 }
 
 #[test]
 fn a_table_offers_at_most_256_places(rt: HostRuntime) -> Result<(), Fail> {
-    entering::offers(&rt, &mut Table::new(rt.alloc(), 256)?, 256)?;
-    entering::offers(&rt, &mut Table::new(rt.alloc(), 257)?, 256)?;
-    entering::offers(&rt, &mut Table::new(rt.alloc(), 300)?, 256)
+    entering::offers(&rt, &mut Table::new(rt.alloc(), 256)?, Sell, 256)?;
+    entering::offers(&rt, &mut Table::new(rt.alloc(), 257)?, Sell, 256)?;
+    entering::offers(&rt, &mut Table::new(rt.alloc(), 300)?, Sell, 256)
 }
 
 #[test]

@@ -58,8 +58,11 @@ pub(crate) fn work_by_name<B: OrderBook>(book: &mut B, name: &str, orders: u32) 
         "rank" => work(book, orders, |book, i| {
             quantity_of(book.rank(Side::Buy, (i % (orders / 2).max(1) + 1) as usize))
         }),
-        // A limit that the best tenth of the buys meets.
-        "limit" => work(book, orders, |book, i| book.at_limit(1_230 + i % 2).0),
+        // A limit that the best tenth of the buys and most of the sells meet.
+        "limit" => work(book, orders, |book, i| {
+            let (bought, sold) = book.at_limit(1_230 + i % 2);
+            bought.wrapping_add(sold)
+        }),
         _ => work(book, orders, |_, i| i),
     }
 }

@@ -7,12 +7,29 @@ use std::alloc::{AllocError, Global};
 use table::Table;
 use trials::Make;
 
-/// The prices of a generated book, in ticks.
-const PRICES: u32 = 12;
-/// The most orders of a generated book.
-const ORDERS: u32 = 9;
-/// The most contracts of an order of a generated book.
-const CONTRACTS: u32 = 4;
+/// How books are drawn.
+#[derive(Clone, Copy)]
+pub(crate) struct Draw {
+    /// The prices, in ticks.
+    prices: u32,
+    /// The most orders.
+    orders: u32,
+    /// The most contracts of an order.
+    contracts: u32,
+}
+
+/// Few orders at many prices, of which many do not trade.
+pub(crate) const THIN: Draw = Draw {
+    prices: 12,
+    orders: 9,
+    contracts: 4,
+};
+/// Many orders of one contract at few prices, where ties are frequent.
+pub(crate) const CROWDED: Draw = Draw {
+    prices: 4,
+    orders: 16,
+    contracts: 1,
+};
 
 /// What came of a generated book.
 #[derive(Clone, Copy)]
@@ -25,38 +42,45 @@ pub(crate) struct Outcome {
     pub(crate) apart: bool,
 }
 
-fn random_order(source: &mut Source) -> PlainOrder {
-    let quantity = source.below(CONTRACTS) + 1;
-    let limit = source.below(PRICES) + 1;
+fn random_order(source: &mut Source, draw: Draw) -> PlainOrder {
+    let quantity = source.below(draw.contracts).saturating_add(1);
+    let limit = source.below(draw.prices).saturating_add(1);
     order(source.side(), quantity, limit)
 }
 
-fn random_orders(heap: Global, source: &mut Source) -> Result<Vec<PlainOrder>, AllocError> {
-    let count = source.below(ORDERS + 1);
-    (0..count).map(|_| random_order(source)).collect(heap)
+fn random_orders(
+    heap: Global,
+    source: &mut Source,
+    draw: Draw,
+) -> Result<Vec<PlainOrder>, AllocError> {
+    let count = source.below(draw.orders.saturating_add(1));
+    (0..count).map(|_| random_order(source, draw)).collect(heap)
 }
 
 /// Whether a make that holds the orders answers something else than the calculator.
 fn is_apart<B: Make>(
     heap: Global,
     orders: &[PlainOrder],
-    session: Session,
+    tick: u32,
+    scarcity: u32,
     told: Option<Indication>,
 ) -> Result<bool, AllocError> {
     let mut book = B::fresh(heap, orders.len())?;
     fill(&mut book, orders);
-    Ok(indication(&book, session) != told.ok_or(SessionRefusal::NoVolume))
+    let answer = Session::open(tick, scarcity).and_then(|session| indication(&book, session));
+    Ok(answer != told.ok_or(SessionRefusal::NoVolume))
 }
 
 /// One generated book, on both makes.
-fn try_book(heap: Global, source: &mut Source) -> Result<Outcome, AllocError> {
-    let orders = random_orders(heap, source)?;
+fn try_book(heap: Global, source: &mut Source, draw: Draw) -> Result<Outcome, AllocError> {
+    let orders = random_orders(heap, source, draw)?;
     let tick = source.below(3) + 1;
-    let scarcity = source.below(PRICES * 4) + 1;
-    let session = Session::open(tick, scarcity).unwrap();
+    let scarcity = source
+        .below(draw.prices.saturating_mul(4))
+        .saturating_add(1);
     let (ending, told) = calculate(&orders, tick, scarcity).unzip();
-    let table_apart = is_apart::<Table>(heap, &orders, session, told)?;
-    let ladder_apart = is_apart::<Ladder>(heap, &orders, session, told)?;
+    let table_apart = is_apart::<Table>(heap, &orders, tick, scarcity, told)?;
+    let ladder_apart = is_apart::<Ladder>(heap, &orders, tick, scarcity, told)?;
     Ok(Outcome {
         ending,
         capped: told.is_some_and(|told| told.price == scarcity / tick * tick),
@@ -64,10 +88,15 @@ fn try_book(heap: Global, source: &mut Source) -> Result<Outcome, AllocError> {
     })
 }
 
-/// So many generated books.
-pub(crate) fn try_books(heap: Global, seed: u64, books: u32) -> Result<Vec<Outcome>, AllocError> {
+/// So many books that are drawn so.
+pub(crate) fn try_books(
+    heap: Global,
+    seed: u64,
+    books: u32,
+    draw: Draw,
+) -> Result<Vec<Outcome>, AllocError> {
     let mut source = Source::new(seed);
     (0..books)
-        .map(|_| try_book(heap, &mut source))
+        .map(|_| try_book(heap, &mut source, draw))
         .try_collect(heap)
 }

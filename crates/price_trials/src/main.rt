@@ -5,19 +5,19 @@
 mod books;
 mod figures;
 
-use books::{Outcome, try_books};
+use books::{CROWDED, Draw, Outcome, THIN, try_books};
 use calculator::Ending;
 use figures::{run_crowds, run_ends, run_figures};
 use trials::show_count;
 
 /// Where the generated numbers start.
 const SEED: u64 = 20_261_118;
-/// How many books are generated.
-const BOOKS: u32 = 20_000;
+/// How many books are generated of each draw.
+const BOOKS: u32 = 10_000;
 
-fn run_books(rt: &HostRuntime) -> anyhow::Result<()> {
-    let outcomes = try_books(rt.alloc(), SEED, BOOKS)?;
-    println!(rt; "generated books {}", outcomes.len())?;
+fn run_books(rt: &HostRuntime, words: &str, draw: Draw) -> anyhow::Result<()> {
+    let outcomes = try_books(rt.alloc(), SEED, BOOKS, draw)?;
+    println!(rt; "generated books, {words} {}", outcomes.len())?;
     for (words, ending) in [
         ("nothing trades", None),
         ("all imbalances positive", Some(Ending::Positive)),
@@ -43,7 +43,8 @@ fn run_books(rt: &HostRuntime) -> anyhow::Result<()> {
 }
 
 fn run(rt: &HostRuntime) -> anyhow::Result<()> {
-    run_books(rt)?;
+    run_books(rt, "thin", THIN)?;
+    run_books(rt, "crowded", CROWDED)?;
     println!(rt; "worked figures")?;
     run_figures(rt)?;
     println!(rt; "ends of the ranges")?;
