@@ -6,7 +6,7 @@ to get the first lines of crates/price_trials/stdout.
 """
 from auction import ending, rows_of
 
-SEED, BOOKS = 20_261_118, 10_000
+SEED, BOOKS = 20_261_118, 20_000
 DRAWS = {"thin": (12, 9, 4), "crowded": (4, 16, 1)}
 state = SEED
 

@@ -11,6 +11,7 @@ use ranking::Ranked;
 use std::marker::PhantomData;
 
 /// Whether an order of a side goes before another of it: by a better limit, or an equal one and a lower number.
+// Compared by hand: a derived order has one direction, and which limit is better depends on the side.
 pub fn outranks(side: Side, order: &Live, other: &Live) -> bool
     ensures { result ≡ before side (order_of order.now) (order_of other.now) }
 {

@@ -22,6 +22,7 @@ fn quantity_of(order: Option<Live>) -> u32 {
 }
 
 /// Enters an order and cuts its whole quantity; its number, or 0 if it is refused.
+// What a step answers is only summed up, so that no step is left out: an order that is none counts 0.
 fn pass<B: OrderBook>(book: &mut B, i: u32) -> u32 {
     let Some(body) = body(i) else {
         return 0;

@@ -61,7 +61,8 @@ impl<S: OneSide> Queue<S> {
         requires { vec_len self.now.run ≤ 256 }
         ensures { result ≡ quantity_at S.SIDE m (orders_of self.now.run.items) }
     {
-        // Ends at the first order that does not trade: in rank, none behind it does.
+        // Ends at the first order that does not trade: in rank, none behind it does. A `for` and no chain of `take_while` and `sum`: that the
+        // sum fits is known at each order from those before it.
         let mut sum = 0u32;
         for order in self.run.iter() {
             let body = order.live.body;

@@ -23,6 +23,7 @@ pub struct Trade {
 }
 
 /// What stands in front of a note's trades.
+// The count stands here and no slice of the trades, which the caller lends room for: a register longer than they are.
 #[derive(Clone, Copy, Debug, PartialEq, Eq)]
 pub struct Heading {
     /// The price, in centavos.

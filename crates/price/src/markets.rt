@@ -25,6 +25,7 @@ pub(crate) struct Market<'a, B: OrderBook> {
 
 impl<'a, B: OrderBook> Market<'a, B> {
     /// What is bought and sold at a price, or nothing at one that does not trade.
+    // Two quantities of 0 and no `Option`: nothing trades at such a price, and it is compared with its neighbour all the same.
     fn traded_at(&self, m: u32) -> Quantities
         ensures { TradedAt (schedule (B.meaning self.now.book.now).orders self.now.most) m result }
     {
@@ -35,6 +36,7 @@ impl<'a, B: OrderBook> Market<'a, B> {
     }
 
     /// The highest price up to `most` at which no less is bought than sold, or the one below `least`.
+    // No `Option`: the price below `least` is where the imbalance changes its sign then, and the next is looked at from there.
     fn crossing(&self) -> u32
         ensures crossing { Crossing (schedule (B.meaning self.now.book.now).orders self.now.most) result }
         ensures low { self.now.least ≤ result + 1 }

@@ -13,7 +13,7 @@ use trials::show_count;
 /// Where the generated numbers start.
 const SEED: u64 = 20_261_118;
 /// How many books are generated of each draw.
-const BOOKS: u32 = 10_000;
+const BOOKS: u32 = 20_000;
 
 fn run_books(rt: &HostRuntime, words: &str, draw: Draw) -> anyhow::Result<()> {
     let outcomes = try_books(rt.alloc(), SEED, BOOKS, draw)?;

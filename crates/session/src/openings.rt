@@ -17,6 +17,7 @@ impl Session {
     }
 
     /// The highest admissible price, in ticks; 0 if there is none.
+    // A count of ticks and no `Option`: the admissible prices are 1 to it, and up to 0 there is none.
     pub fn ceiling(self) -> u32
         ensures { result ≡ ceiling self.tick self.scarcity }
     {
