@@ -9,6 +9,7 @@ use reports::{MAX_FEED, report};
 use std::io::Read;
 
 /// The feed; of one that is too long, one byte too many.
+// Each program moves its own bytes: a crate for so few lines would be one more to read.
 fn input(rt: &HostRuntime) -> anyhow::Result<Vec<u8>> {
     let mut bytes = Vec::new(rt.alloc());
     rt.stdin()

@@ -75,6 +75,7 @@ impl fmt::Display for FaultLine {
 }
 
 /// The trades of an uncrossing, which are a part of the log.
+// By place and count, as the answer has them: room for all trades is made before the first call, so that no answer holds a slice.
 fn trades_of(log: &[Trade], first: usize, count: usize) -> &[Trade]
     ensures { result.now ≡ take count (drop first log.now) }
 {
@@ -156,6 +157,7 @@ pub fn report(heap: Global, feed: &[u8]) -> Result<String, AllocError>
         });
         return format!(in heap; "{line}");
     }
+    // No constant of the library's: it would offer a trade that no note can hold.
     let nothing = Trade {
         buy: 0,
         sell: 0,

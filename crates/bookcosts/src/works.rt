@@ -39,12 +39,9 @@ fn work<B: OrderBook, F: Fn(&mut B, u32) -> u32>(book: &mut B, orders: u32, step
     requires { F.IsAlwaysCallable step }
 {
     fill(book, orders);
-    // A `for` and no chain, since each step changes the book.
-    let mut sum = 0u32;
-    for i in 0..TIMES {
-        sum = sum.wrapping_add(step(book, i));
-    }
-    sum
+    (0..TIMES)
+        .map(|i| step(book, i))
+        .fold(0u32, u32::wrapping_add)
 }
 
 /// Works by the step of a name. An unknown name does nothing, to tell what the rest of the program costs.

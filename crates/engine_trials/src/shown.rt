@@ -1,9 +1,10 @@
 // What the engine answers and what it leaves, as text.
 use book::OrderBook;
 use engine::Journal;
+use feed::Layer;
 use note::Trade;
 use price::Indication;
-use trading::{Answer, Layer, Refusal};
+use trading::{Answer, Refusal};
 
 /// Prints the rest of a line: a trade.
 pub(crate) fn show_trade(rt: &HostRuntime, trade: Trade) -> anyhow::Result<()> {
@@ -19,10 +20,7 @@ fn show_told(rt: &HostRuntime, word: &str, told: Indication) -> anyhow::Result<(
 
 /// Prints the number and the layer of a refusal.
 fn show_refused(rt: &HostRuntime, why: Refusal) -> anyhow::Result<()> {
-    let layer = match why.layer() {
-        Layer::Book => "book",
-        Layer::Session => "session",
-    };
+    let layer = Layer::from(why.layer());
     println!(rt; "refused {} {layer}", u8::from(why))?;
     Ok(())
 }

@@ -9,6 +9,7 @@ use session::SessionRefusal;
 use trading::Refusal;
 
 /// The number of a line, and the first byte of each of its parts. A part that the line has not stands at the line's first byte.
+// And not in an `Option`: no refusal of the line blames such a part.
 #[derive(Clone, Copy)]
 pub(crate) struct Places {
     /// The line, counted from 1.

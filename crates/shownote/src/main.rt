@@ -10,6 +10,7 @@ use reports::report;
 use std::io::Read;
 
 /// The input as far as it decides the answer.
+// Each program moves its own bytes: a crate for so few lines would be one more to read.
 fn input(rt: &HostRuntime) -> anyhow::Result<Vec<u8>> {
     let mut bytes = Vec::new(rt.alloc());
     rt.stdin()

@@ -72,6 +72,7 @@ impl fmt::Display for NoteLines<'_> {
         let count = self.trades.len();
         let total = total(self.trades);
         write!(f, "{price}trades {count}\ncontracts {total}\n")?;
+        // The place of each trade is printed with it.
         for (i, trade) in self.trades.iter().enumerate() {
             let line = TradeLine {
                 k: i + 1,
@@ -108,6 +109,7 @@ fn report_by(heap: Global, input: &[u8], register: &mut [Trade]) -> Result<Strin
 pub fn report(heap: Global, input: &[u8]) -> Result<String, AllocError>
     ensures { IfOk result (λ text. string_bytes text ≡ report_text (read_note input.now)) }
 {
+    // No constant of the library's: it would offer a trade that no note can hold.
     let nothing = Trade {
         buy: 0,
         sell: 0,

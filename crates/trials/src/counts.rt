@@ -10,7 +10,7 @@ pub fn how_many<T, F: Fn(&T) -> bool>(items: &[T], counts: F) -> usize
     requires { F.IsAlwaysCallable counts }
     ensures { (test : T → Bool) → Computes (FnReturnsAt F.Fn counts) test items.now → result ≡ count_by test items.now }
 {
-    // A `for` and no chain: of a chain's filter nothing is known of what it leaves out.
+    // A `for` and no chain: where the caller gives the test, nothing is known of what a chain's filter leaves out.
     let mut count = 0usize;
     for item in items {
         if counts(item) {
