@@ -8,7 +8,7 @@ use Rattle.trading.specs.Law.{Law}
 use Rattle.feed.specs.Steps.{Read, Reads, Terms, all_judged, terms_after_all, calls_of}
 use Rattle.feed.specs.declared.faults.Fault.{Fault}
 use Rattle.feed.specs.declared.replies.Done.{Done}
-use Rattle.feed.specs.Replies.{Told, told_all, read_all, Within}
+use Rattle.feed.specs.Replies.{Told, told_all, read_all, trades_told, Within}
 use Rattle.rules.specs.Rivals.{Each}
 
 -- the calls of a feed obey the law in its session; without a session there is no call, and nothing changes
@@ -28,9 +28,11 @@ pub record Plays (feed : List ℕ) (m : Book) (register : List Trade) (told : Li
   pub answers : told ≡ told_all (all_judged None 1 lines) replies
   pub count : length told ≡ length lines
 
--- What is answered, as it is read in the log: it is told by the rules, and each answer's trades stand in the log.
+-- What is answered, as it is read in the log: it is told by the rules, the log is the trades of all uncrossings and no others, and each
+-- answer's stand in it.
 pub record Answered (feed : List ℕ) (m : Book) (register : List Trade) (log : List Trade) (replies : List (Result Done Fault)) (m' : Book) (register' : List Trade) : Type 0 where
   pub plays : Plays feed m register (read_all log replies) m' register'
+  pub logged : log ≡ trades_told (read_all log replies)
   pub placed : Each (Within (length log)) replies
 
 -- nothing was carried out

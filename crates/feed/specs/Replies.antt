@@ -1,5 +1,5 @@
 -- What each line is answered. Assumes nothing.
-use Rattle.std.specs.Prelude.{◌≡◌, ℕ, ◌+◌, ◌<◌, ◌≤◌, List, [], ◌∷◌, length, take, drop, Ok, Err, Result}
+use Rattle.std.specs.Prelude.{◌≡◌, ℕ, ◌+◌, ◌<◌, ◌≤◌, List, [], ◌∷◌, ◌++◌, length, take, drop, Ok, Err, Result}
 use Rattle.note.specs.declared.trades.Trade.{Trade}
 use Rattle.price.specs.declared.indications.Indication.{Indication}
 use Rattle.trading.specs.Replies.{Reply, entered, was_cut, withdrawn, indicated, uncrossed, refused, read_all as replies_read}
@@ -59,6 +59,17 @@ read log (Err fault) = faulty fault
 unfoldable pub read_all : List Trade → List (Result Done Fault) → List Told
 read_all log [] = []
 read_all log (a ∷ answers) = read log a ∷ read_all log answers
+
+-- the trades of all uncrossings, one behind the other
+abbrev pub trades_in : Told → List Trade
+trades_in accepted = []
+trades_in (numbered n) = []
+trades_in (crossed told ts) = ts
+trades_in (faulty fault) = []
+
+unfoldable pub trades_told : List Told → List Trade
+trades_told [] = []
+trades_told (t ∷ ts) = trades_in t ++ trades_told ts
 
 -- an answer's trades stand within the first n of the log
 abbrev pub Within : ℕ → Result Done Fault → Type 0

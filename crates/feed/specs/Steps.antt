@@ -84,11 +84,6 @@ abbrev pub opened : Option Terms → ℕ → ℕ → Option Terms
 opened (Some t) tick scarcity = Some t
 opened None tick scarcity = cond (is_tick tick && is_price scarcity) (Some (record { tick = tick; scarcity = scarcity })) None
 
--- the session of an opening, or that it is refused
-abbrev pub Opens : ℕ → ℕ → Result Session Refusal → Type 0
-Opens tick scarcity (Ok s) = ((is_tick tick && is_price scarcity) ≡ true) × (s.tick ≡ tick) × (s.scarcity ≡ scarcity)
-Opens tick scarcity (Err why) = ((is_tick tick && is_price scarcity) ≡ false) × (why ≡ OfSession SessionRange)
-
 -- any other message: out of turn before an accepted opening
 abbrev pub call_judged : Option Terms → Places → Call → Result Step Fault
 call_judged None p c = Err (out_of_turn p)
@@ -100,24 +95,6 @@ line_judged t p (LineEntry side quantity price) = call_judged t p (Entry side (n
 line_judged t p (LineCut order quantity) = call_judged t p (Cut (number order) (number quantity))
 line_judged t p (LineWithdrawal order) = call_judged t p (Withdrawal (number order))
 line_judged t p LineUncrossing = call_judged t p Uncrossing
-
--- whether a message comes in its turn: an opening before an accepted one, any other after it
-abbrev pub is_opening : Line → Bool
-is_opening (LineOpening tick scarcity) = true
-is_opening (LineEntry side quantity price) = false
-is_opening (LineCut order quantity) = false
-is_opening (LineWithdrawal order) = false
-is_opening LineUncrossing = false
-
-abbrev pub in_turn : Option Terms → Line → Bool
-in_turn None line = is_opening line
-in_turn (Some t) line = not (is_opening line)
-
--- a line that comes in its turn asks for a call, or for none if it is an opening
-abbrev pub step_of : Places → Result (Option Call) Fault → Result Step Fault
-step_of p (Ok None) = Ok Opening
-step_of p (Ok (Some c)) = Ok (Asking c p)
-step_of p (Err fault) = Err fault
 
 -- the n-th line
 abbrev pub judged : Option Terms → ℕ → ℕ → Result Line MalformedLine → Result Step Fault
@@ -154,3 +131,28 @@ with_call (Err fault) cs = cs
 unfoldable pub calls_of : List (Result Step Fault) → List Call
 calls_of [] = []
 calls_of (s ∷ ss) = with_call s (calls_of ss)
+
+-- What private functions promise one another; no caller needs it.
+
+-- the session of an opening, or that it is refused
+abbrev pub Opens : ℕ → ℕ → Result Session Refusal → Type 0
+Opens tick scarcity (Ok s) = ((is_tick tick && is_price scarcity) ≡ true) × (s.tick ≡ tick) × (s.scarcity ≡ scarcity)
+Opens tick scarcity (Err why) = ((is_tick tick && is_price scarcity) ≡ false) × (why ≡ OfSession SessionRange)
+
+-- whether a message comes in its turn: an opening before an accepted one, any other after it
+abbrev pub is_opening : Line → Bool
+is_opening (LineOpening tick scarcity) = true
+is_opening (LineEntry side quantity price) = false
+is_opening (LineCut order quantity) = false
+is_opening (LineWithdrawal order) = false
+is_opening LineUncrossing = false
+
+abbrev pub in_turn : Option Terms → Line → Bool
+in_turn None line = is_opening line
+in_turn (Some t) line = not (is_opening line)
+
+-- a line that comes in its turn asks for a call, or for none if it is an opening
+abbrev pub step_of : Places → Result (Option Call) Fault → Result Step Fault
+step_of p (Ok None) = Ok Opening
+step_of p (Ok (Some c)) = Ok (Asking c p)
+step_of p (Err fault) = Err fault

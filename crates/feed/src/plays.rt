@@ -1,6 +1,6 @@
 // A feed played on a book.
 ghost use Rattle.std.specs.Prelude.{◌≡◌, length, MatchResult};
-ghost use Rattle.trading.specs.Replies.{read_all as replies_read};
+ghost use Rattle.trading.specs.Replies.{log_of, read_all as replies_read};
 ghost use Rattle.feed.specs.Steps.{terms_of};
 ghost use Rattle.rules.specs.Rivals.{Each};
 ghost use Rattle.engine.specs.Runs.{Within};
@@ -24,7 +24,7 @@ pub struct Played {
 }
 
 /// Carries out the calls in the session; without one, none.
-#[tactic(auto, using(crate::proofs::Playing::no_calls))]
+#[tactic(auto, using(crate::proofs::Playing::no_calls, crate::proofs::Playing::no_log))]
 fn carry_out<B: OrderBook>(
     heap: Global,
     book: &mut B,
@@ -33,7 +33,7 @@ fn carry_out<B: OrderBook>(
     register: &mut [Trade],
 ) -> Result<Journal, AllocError>
     requires { Silent (terms_of session) calls.now }
-    ensures { MatchResult result (λ journal. CarriedOut (terms_of session) (B.meaning book.old) register.old calls.now (replies_read journal.trades.items journal.answers.items) (B.meaning book.new) register.new × Each (Within (length journal.trades.items)) journal.answers.items) (λ _. Unplayed (B.meaning book.old) register.old (B.meaning book.new) register.new) }
+    ensures { MatchResult result (λ journal. CarriedOut (terms_of session) (B.meaning book.old) register.old calls.now (replies_read journal.trades.items journal.answers.items) (B.meaning book.new) register.new × (journal.trades.items ≡ log_of (replies_read journal.trades.items journal.answers.items)) × Each (Within (length journal.trades.items)) journal.answers.items) (λ _. Unplayed (B.meaning book.old) register.old (B.meaning book.new) register.new) }
 {
     match session {
         Some(session) => run(heap, book, session, calls, register),

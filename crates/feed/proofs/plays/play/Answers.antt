@@ -8,7 +8,7 @@ pub carry_out-requires : goal.carry_out-requires
 carry_out-requires g c = subst (λ cs. Silent (terms_of c.in_ok-script.script.session) cs) (sym c.deref.ensures.value) (silent _ _ _ _ c.in_ok-script.ensures)
 
 pub answer_lines-requires-clause-asked : goal.answer_lines-requires-clause-asked
-answer_lines-requires-clause-asked g c = each_answered _ _ _ _ _ _ _ _ _ _ _ _ _ c.deref-2.ensures.value c.deref.ensures.value c.deref-3.ensures.value c.in_ok-script.ensures c.in_ok-journal.ensures.0 c.in_ok-journal.ensures.1
+answer_lines-requires-clause-asked g c = each_answered _ _ _ _ _ _ _ _ _ _ _ _ _ c.deref-2.ensures.value c.deref.ensures.value c.deref-3.ensures.value c.in_ok-script.ensures c.in_ok-journal.ensures.0 c.in_ok-journal.ensures.1 c.in_ok-journal.ensures.2
 
 pub returns : goal.returns
-returns g c = answered _ _ _ _ _ _ _ _ _ _ _ _ _ c.deref-2.ensures.value c.deref.ensures.value c.deref-3.ensures.value c.in_ok-script.ensures c.in_ok-journal.ensures.0 c.in_ok-journal.ensures.1 _ c.answer_lines.ensures.told c.answer_lines.ensures.placed
+returns g c = answered _ _ _ _ _ _ _ _ _ _ _ _ _ c.deref-2.ensures.value c.deref.ensures.value c.deref-3.ensures.value c.in_ok-script.ensures c.in_ok-journal.ensures.0 c.in_ok-journal.ensures.1 c.in_ok-journal.ensures.2 _ c.answer_lines.ensures.told c.answer_lines.ensures.placed
