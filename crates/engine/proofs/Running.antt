@@ -12,6 +12,7 @@ use Rattle.trading.specs.declared.refusals.Refusal.{Refusal}
 use Rattle.trading.specs.Replies.{Reply, uncrossed, refused, trades_of, outcome, replies, after_all, written, register_after, log_of, read, read_all}
 use Rattle.trading.proofs.Following.{follows, lawful}
 use Rattle.rules.specs.Rivals.{Each}
+use Rattle.rules.proofs.Sums.{each_snoc}
 use Rattle.engine.specs.Runs.{Within, Ran}
 
 -- An answer reads the same in a longer log.
@@ -48,10 +49,6 @@ within_more n k le (Err why) h = tt
 all_within_more : (n k : ℕ) → n ≤ k → (answers : List (Result Answer Refusal)) → Each (Within n) answers → Each (Within k) answers
 all_within_more n k le [] h = tt
 all_within_more n k le (a ∷ answers) h = (within_more n k le a h.0, all_within_more n k le answers h.1)
-
-each_snoc : (P : Result Answer Refusal → Type 0) (answers : List (Result Answer Refusal)) (a : Result Answer Refusal) → Each P answers → P a → Each P (answers ++ a ∷ [])
-each_snoc P [] a h p = (p, tt)
-each_snoc P (b ∷ answers) a h p = (h.0, each_snoc P answers a h.1 p)
 
 -- what an uncrossing adds to the log is read back
 pub read_added : (log ts : List Trade) (told : Indication) (count : ℕ) → count ≡ length ts → read (log ++ ts) (Ok (Uncrossed told (length log) count)) ≡ uncrossed told ts

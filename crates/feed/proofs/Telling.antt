@@ -15,6 +15,7 @@ use Rattle.feed.specs.declared.steps.Step.{Step}
 use Rattle.feed.specs.declared.steps.Step.TheVariants.{Opening, Asking}
 use Rattle.feed.specs.Steps.{with_call, calls_of}
 use Rattle.rules.specs.Rivals.{Each}
+use Rattle.rules.proofs.Sums.{each_snoc}
 use Rattle.engine.specs.Runs.{Within as AnswerWithin}
 use Rattle.feed.specs.Replies.{told_of, told_all, read, read_all, Within, Left, AnswersOne}
 
@@ -22,10 +23,6 @@ read_all_snoc : (log : List Trade) (answers : List (Result Done Fault)) (a : Res
 unfolding read_all
 read_all_snoc log [] a = refl
 read_all_snoc log (b ∷ answers) a = ap (λ rs. read log b ∷ rs) (read_all_snoc log answers a)
-
-each_snoc : (P : Result Done Fault → Type 0) (replies : List (Result Done Fault)) (r : Result Done Fault) → Each P replies → P r → Each P (replies ++ r ∷ [])
-each_snoc P [] r h p = (p, tt)
-each_snoc P (b ∷ replies) r h p = (h.0, each_snoc P replies r h.1 p)
 
 -- the replies so far, and what the lines that are left are told, are what all lines are told; each call that is left has its answer
 pub record Telling (ss : List (Result Step Fault)) (answers : List (Result Answer Refusal)) (replies : List (Result Done Fault)) (i : ℕ) (left : List (Result Answer Refusal)) : Type 0 where

@@ -1,5 +1,5 @@
 -- Lists of orders: what is so of each, sums over them, and the same of a side in rank. Assumes nothing.
-use Rattle.std.proofs.Common.{◌≡◌, ℕ, ◌+◌, ◌≤◌, Bool, true, false, cond, not, ◌&&◌, List, [], ◌∷◌, Some, sym, refl, ◌∙◌, subst, inl, inr, arith}
+use Rattle.std.proofs.Common.{◌≡◌, ℕ, ◌+◌, ◌≤◌, Bool, true, false, cond, not, ◌&&◌, List, [], ◌∷◌, ◌++◌, Some, sym, refl, ◌∙◌, subst, inl, inr, arith}
 use Rattle.std.proofs.lemmas.Bool.{and_parts, not-true}
 use Rattle.ranking.specs.Runs.{none_before, in_rank}
 use Rattle.ranking.proofs.Placing.{ranked_cons, none_cons}
@@ -21,6 +21,10 @@ each_as P Q h (x ∷ xs) e = (h x e.0, each_as P Q h xs e.1)
 pub each_both : {X : Type 0} (P Q : X → Type 0) (xs : List X) → Each P xs → Each Q xs → Each (λ x. P x × Q x) xs
 each_both P Q [] p q = tt
 each_both P Q (x ∷ xs) p q = ((p.0, q.0), each_both P Q xs p.1 q.1)
+
+pub each_snoc : {X : Type 0} (P : X → Type 0) (xs : List X) (x : X) → Each P xs → P x → Each P (xs ++ x ∷ [])
+each_snoc P [] x h p = (p, tt)
+each_snoc P (y ∷ xs) x h p = (h.0, each_snoc P xs x h.1 p)
 
 pub each_all : {X : Type 0} (P : X → Type 0) → ((x : X) → P x) → (xs : List X) → Each P xs
 each_all P h [] = tt

@@ -4,12 +4,13 @@ use Rattle.std.proofs.lemmas.Bool.{eq-eqb, ne_eqb, cond-true, cond-false, and_pa
 use Rattle.note.specs.declared.trades.Trade.{Trade}
 use Rattle.ranking.specs.Runs.{none_before, in_rank}
 use Rattle.ranking.proofs.Placing.{ranked_cons}
-use Rattle.ranking.proofs.Sorting.{Shuffle, none, keep, swap, then, Other, Apart, back, shuffle_sorted}
+use Rattle.ranking.proofs.Sorting.{Other, Apart, back, shuffle_sorted}
 use Rattle.book.specs.declared.orders.Side.{Side}
 use Rattle.book.specs.declared.orders.Side.TheVariants.{Buy, Sell}
 use Rattle.book.specs.Meaning.{Order, is_side, quantity_at, find_in}
 use Rattle.book.specs.Ranks.{before, of_side, ranked}
 use Rattle.book.proofs.Bests.{ranked_ranked}
+use Rattle.book.proofs.Places.{Has, has_shuffle, has_side}
 use Rattle.book.proofs.Turns.{number_of, irreflexive}
 use Rattle.rules.specs.Rivals.{In, Each, traded, InRank}
 use Rattle.rules.specs.Trades.{fills, trades_at}
@@ -74,29 +75,19 @@ fills_in_rank s v (o ∷ os) r a x y (inr i) (inr j) b some =
 
 -- The orders of a side are all among its orders in rank.
 
-in_side : (s : Side) (x : Order) (os : List Order) → In x os → x.side ≡ s → In x (of_side s os)
-unfolding of_side
-in_side s x [] i e = absurd i
-in_side s x (o ∷ os) (inl same) e = by (is_side s o.side) (ap (is_side s) (sym (ap (λ (p : Order). p.side) same) ∙ e) ∙ is_side_own s) where
-  by : (b : Bool) → b ≡ true → In x (cond b (o ∷ of_side s os) (of_side s os))
-  by true t = inl same
-  by false t = let z : ◌≡◌ {A = ℕ} 0 1 = cc in absurd (omega arith)
-in_side s x (o ∷ os) (inr i) e = by (is_side s o.side) (in_side s x os i e) where
-  by : (b : Bool) → In x (of_side s os) → In x (cond b (o ∷ of_side s os) (of_side s os))
-  by true k = inr k
-  by false k = k
+in_has : (x : Order) (os : List Order) → In x os → Has x os
+in_has x [] i = i
+in_has x (o ∷ os) (inl e) = inl (sym e)
+in_has x (o ∷ os) (inr i) = inr (in_has x os i)
 
-in_shuffle : {xs ys : List Order} → Shuffle xs ys → (x : Order) → In x xs → In x ys
-in_shuffle none x i = i
-in_shuffle (keep s) x (inl e) = inl e
-in_shuffle (keep s) x (inr i) = inr (in_shuffle s x i)
-in_shuffle swap x (inl e) = inr (inl e)
-in_shuffle swap x (inr (inl e)) = inl e
-in_shuffle swap x (inr (inr i)) = inr (inr i)
-in_shuffle (then s t) x i = in_shuffle t x (in_shuffle s x i)
+has_in : (x : Order) (os : List Order) → Has x os → In x os
+has_in x [] h = h
+has_in x (o ∷ os) (inl e) = inl (sym e)
+has_in x (o ∷ os) (inr h) = inr (has_in x os h)
 
 in_ranked : (s : Side) (x : Order) (os : List Order) → In x os → x.side ≡ s → In x (ranked s os)
-in_ranked s x os i e = in_shuffle (back (shuffle_sorted (before s) (of_side s os))) x (in_side s x os i e)
+in_ranked s x os i e =
+    has_in x (ranked s os) (has_shuffle x (back (shuffle_sorted (before s) (of_side s os))) (has_side s x os (ap (is_side s) e ∙ is_side_own s) (in_has x os i)))
 
 -- What an order trades is its fill.
 
