@@ -1,7 +1,7 @@
 -- A run that has carried out its first i calls. Assumes nothing.
 use Rattle.std.proofs.Common.{◌≡◌, ℕ, zero, suc, ◌+◌, ◌-◌, ◌<◌, ◌≤◌, true, List, [], ◌∷◌, ◌++◌, length, get_or, take, drop, Ok, Err, Result, sym, refl, ap, ◌∙◌, subst, append_assoc, append-nil, add-one, arith, length-append, drop-cons, take-suc}
 use lib.Seq.{drop-length, append_snoc, take-append-le, drop-append-le, drop-append_seam}
-use Rattle.std.proofs.lemmas.List.{length-drop, length-take, take_all}
+use Rattle.std.proofs.lemmas.List.{map-append, length-drop, length-take, take_all}
 use Rattle.note.specs.declared.trades.Trade.{Trade}
 use Rattle.book.specs.Meaning.{Book, rising}
 use Rattle.price.specs.declared.indications.Indication.{Indication}
@@ -29,14 +29,8 @@ read_more log more (Ok (Uncrossed told first count)) h =
 read_more log more (Err why) h = refl
 
 pub read_all_more : (log more : List Trade) (answers : List (Result Answer Refusal)) → Each (Within (length log)) answers → read_all (log ++ more) answers ≡ read_all log answers
-unfolding read_all
 read_all_more log more [] h = refl
 read_all_more log more (a ∷ answers) h = ap (λ r. r ∷ read_all (log ++ more) answers) (read_more log more a h.0) ∙ ap (λ rs. read log a ∷ rs) (read_all_more log more answers h.1)
-
-read_all_snoc : (log : List Trade) (answers : List (Result Answer Refusal)) (a : Result Answer Refusal) → read_all log (answers ++ a ∷ []) ≡ read_all log answers ++ read log a ∷ []
-unfolding read_all
-read_all_snoc log [] a = refl
-read_all_snoc log (b ∷ answers) a = ap (λ rs. read log b ∷ rs) (read_all_snoc log answers a)
 
 within_more : (n k : ℕ) → n ≤ k → (a : Result Answer Refusal) → Within n a → Within k a
 within_more n k le (Ok (Entered i)) h = tt
@@ -66,7 +60,6 @@ pub record Going (tick scarcity places : ℕ) (m₀ : Book) (xs₀ : List Trade)
   pub few : length log + length m.orders ≤ length m₀.orders + i
 
 pub going_starts : (tick scarcity places : ℕ) (m : Book) (xs : List Trade) (cs : List Call) → rising 0 m.orders m.last ≡ true → Going tick scarcity places m xs cs [] [] m xs 0
-unfolding read_all
 going_starts tick scarcity places m xs cs r =
     record { within = omega arith; rises = r; replied = refl; ends = refl; register = refl; logged = refl; placed = tt; few = omega arith }
 
@@ -89,7 +82,7 @@ module _ (tick scarcity places : ℕ) (m₀ : Book) (xs₀ : List Trade) (cs : L
       let f = follows tick scarcity places m h.rises c in
       let longer = length-append log ts in
       let so_far : read_all (log ++ ts) (answers ++ a ∷ []) ≡ read_all log answers ++ o.reply ∷ [] =
-      read_all_snoc (log ++ ts) answers a ∙ ap (λ rs. rs ++ read (log ++ ts) a ∷ []) (read_all_more log ts answers h.placed) ∙ ap (λ r. read_all log answers ++ r ∷ []) reads in
+      map-append (read (log ++ ts)) answers (a ∷ []) ∙ ap (λ rs. rs ++ read (log ++ ts) a ∷ []) (read_all_more log ts answers h.placed) ∙ ap (λ r. read_all log answers ++ r ∷ []) reads in
       record {
         within = omega arith;
         rises = f.rises;

@@ -1,11 +1,12 @@
 -- How many replies and answers there are. Assumes nothing.
 use Rattle.std.proofs.Common.{◌≡◌, ℕ, suc, ◌+◌, List, [], ◌∷◌, length, Ok, Err, Option, Result, refl, ap, arith}
+use Rattle.std.proofs.lemmas.List.{length-map}
 use Rattle.note.specs.declared.trades.Trade.{Trade}
 use Rattle.book.specs.Meaning.{Book}
 use Rattle.trading.specs.declared.calls.Call.{Call}
 use Rattle.trading.specs.declared.answers.Answer.{Answer}
 use Rattle.trading.specs.declared.refusals.Refusal.{Refusal}
-use Rattle.trading.specs.Replies.{Reply, outcome, replies, read_all as replies_read}
+use Rattle.trading.specs.Replies.{Reply, outcome, replies, read as reply_read, read_all as replies_read}
 use Rattle.feed.specs.declared.faults.Fault.{Fault}
 use Rattle.feed.specs.declared.steps.Step.{Step}
 use Rattle.feed.specs.declared.steps.Step.TheVariants.{Opening, Asking}
@@ -18,9 +19,7 @@ replies_length tick scarcity places m [] = refl
 replies_length tick scarcity places m (c ∷ cs) = ap suc (replies_length tick scarcity places (outcome tick scarcity places m c).after cs)
 
 pub read_length : (log : List Trade) (answers : List (Result Answer Refusal)) → length (replies_read log answers) ≡ length answers
-unfolding replies_read
-read_length log [] = refl
-read_length log (a ∷ answers) = ap suc (read_length log answers)
+read_length log answers = length-map answers (reply_read log)
 
 pub judged_length : (t : Option Terms) (n : ℕ) (ls : List Read) → length (all_judged t n ls) ≡ length ls
 unfolding all_judged

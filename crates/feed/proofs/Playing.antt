@@ -65,12 +65,11 @@ silent feed session steps calls s =
     subst (λ t. Silent t calls) (sym s.session_is) (subst (λ cs. Silent (terms_after_all None s.lines) cs) (sym s.calls_are) (silent_lines 1 s.lines))
 
 pub no_calls : (t : Option Terms) (m : Book) (register : List Trade) (cs : List Call) (answers : List (Result Answer Refusal)) (log : List Trade) → t ≡ None → Silent t cs → answers ≡ [] → CarriedOut t m register cs (replies_read log answers) m register
-unfolding replies_read
 no_calls t m register cs answers log e s a =
     subst (λ u. Silent u cs → CarriedOut u m register cs (replies_read log answers) m register) (sym e) (λ silent. (silent, ap (replies_read log) a, refl, refl)) s
 
 pub no_log : (answers : List (Result Answer Refusal)) (log : List Trade) → answers ≡ [] → log ≡ [] → log ≡ log_of (replies_read log answers)
-unfolding replies_read log_of
+unfolding log_of
 no_log answers log e f = f ∙ sym (ap (λ as'. log_of (replies_read log as')) e)
 
 -- The trades that the lines are told are those of the replies to the calls among them.

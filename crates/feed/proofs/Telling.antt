@@ -1,7 +1,7 @@
 -- Lines of which the first i are answered, by the first of the answers to their calls. Assumes nothing.
 use Rattle.std.proofs.Common.{◌≡◌, ℕ, ◌+◌, ◌<◌, ◌≤◌, List, [], ◌∷◌, ◌++◌, length, get_or, drop, Ok, Err, Result, sym, refl, ap, ◌∙◌, subst, append-nil, arith}
 use lib.Seq.{append_snoc}
-use Rattle.std.proofs.lemmas.List.{drop_more, drop_all}
+use Rattle.std.proofs.lemmas.List.{map-append, drop_more, drop_all}
 use Rattle.note.specs.declared.trades.Trade.{Trade}
 use Rattle.trading.specs.declared.calls.Call.{Call}
 use Rattle.trading.specs.declared.answers.Answer.{Answer}
@@ -19,11 +19,6 @@ use Rattle.rules.proofs.Sums.{each_snoc}
 use Rattle.engine.specs.Runs.{Within as AnswerWithin}
 use Rattle.feed.specs.Replies.{told_of, told_all, read, read_all, Within, Left, AnswersOne}
 
-read_all_snoc : (log : List Trade) (answers : List (Result Done Fault)) (a : Result Done Fault) → read_all log (answers ++ a ∷ []) ≡ read_all log answers ++ read log a ∷ []
-unfolding read_all
-read_all_snoc log [] a = refl
-read_all_snoc log (b ∷ answers) a = ap (λ rs. read log b ∷ rs) (read_all_snoc log answers a)
-
 -- the replies so far, and what the lines that are left are told, are what all lines are told; each call that is left has its answer
 pub record Telling (ss : List (Result Step Fault)) (answers : List (Result Answer Refusal)) (replies : List (Result Done Fault)) (i : ℕ) (left : List (Result Answer Refusal)) : Type 0 where
   pub told : (log : List Trade) → read_all log replies ++ told_all (drop i ss) (replies_read log left) ≡ told_all ss (replies_read log answers)
@@ -31,7 +26,6 @@ pub record Telling (ss : List (Result Step Fault)) (answers : List (Result Answe
   pub placed : (n : ℕ) → Each (AnswerWithin n) answers → Each (Within n) replies × Each (AnswerWithin n) left
 
 pub tell_none : (ss : List (Result Step Fault)) (answers : List (Result Answer Refusal)) (replies : List (Result Done Fault)) (left : List (Result Answer Refusal)) → length answers ≡ length (calls_of ss) → replies ≡ [] → left ≡ answers → Telling ss answers replies 0 left
-unfolding read_all
 tell_none ss answers replies left e none whole = record {
   told = λ log. ap (λ rs. read_all log rs ++ told_all ss (replies_read log left)) none ∙ ap (λ as'. told_all ss (replies_read log as')) whole;
   asked = ap length whole ∙ e;
@@ -50,7 +44,7 @@ one_fault s fault answers e = subst (λ x. AnswersOne x answers (Err fault) answ
 
 pub one_call : (s : Result Step Fault) (c : Call) (p : Places) (answers : List (Result Answer Refusal)) (a : Result Answer Refusal) (left : List (Result Answer Refusal)) (r : Result Done Fault) → s ≡ Ok (Asking c p) → answers ≡ a ∷ left
     → ((log : List Trade) → read log r ≡ told_of p (reply_read log a)) → ((n : ℕ) → AnswerWithin n a → Within n r) → AnswersOne s answers r left
-unfolding told_all replies_read
+unfolding told_all
 one_call s c p answers a left r e first reads placed = subst (λ x. AnswersOne x answers r left) (sym e) (subst (λ as'. AnswersOne (Ok (Asking c p)) as' r left) (sym first) (record {
   head = λ log ss. ap (λ x. x ∷ told_all ss (replies_read log left)) (sym (reads log));
   taken = omega arith;
@@ -86,7 +80,7 @@ module _ (ss : List (Result Step Fault)) (answers : List (Result Answer Refusal)
       record {
         told = λ log.
             ap (λ rs. read_all log rs ++ told_all rest (replies_read log left')) e
-            ∙ ap (λ x. x ++ told_all rest (replies_read log left')) (read_all_snoc log replies r)
+            ∙ ap (λ x. x ++ told_all rest (replies_read log left')) (map-append (read log) replies (r ∷ []))
             ∙ append_snoc (read_all log replies) (read log r) _
             ∙ ap (λ x. read_all log replies ++ x) (sym (one.head log rest))
             ∙ subst (λ ds. read_all log replies ++ told_all ds (replies_read log left) ≡ told_all ss (replies_read log answers)) onward (h.told log);

@@ -1,5 +1,5 @@
 -- What each line is answered. Assumes nothing.
-use Rattle.std.specs.Prelude.{◌≡◌, ℕ, ◌+◌, ◌<◌, ◌≤◌, List, [], ◌∷◌, ◌++◌, length, take, drop, Ok, Err, Result}
+use Rattle.std.specs.Prelude.{◌≡◌, ℕ, ◌+◌, ◌<◌, ◌≤◌, List, [], ◌∷◌, ◌++◌, map, length, take, drop, Ok, Err, Result}
 use Rattle.note.specs.declared.trades.Trade.{Trade}
 use Rattle.price.specs.declared.indications.Indication.{Indication}
 use Rattle.trading.specs.Replies.{Reply, entered, was_cut, withdrawn, indicated, uncrossed, refused, read_all as replies_read}
@@ -56,9 +56,8 @@ read log (Ok (Entered n)) = numbered n
 read log (Ok (Uncrossed told first count)) = crossed told (take count (drop first log))
 read log (Err fault) = faulty fault
 
-unfoldable pub read_all : List Trade → List (Result Done Fault) → List Told
-read_all log [] = []
-read_all log (a ∷ answers) = read log a ∷ read_all log answers
+abbrev pub read_all : List Trade → List (Result Done Fault) → List Told
+read_all log answers = map (read log) answers
 
 -- the trades of all uncrossings, one behind the other
 abbrev pub trades_in : Told → List Trade

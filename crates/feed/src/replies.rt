@@ -74,7 +74,7 @@ fn answer_line(
 
 /// Answers each line.
 // Into room that the caller made before it carried out the calls, so that nothing can fail here: `extend` could.
-#[tactic(auto, using(crate::proofs::Telling::tell_none, crate::proofs::Telling::told_whole))]
+#[tactic(auto, using(crate::proofs::Telling::tell_none))]
 pub(crate) fn answer_lines(
     steps: &[Result<Step, Fault>],
     answers: &[Result<Answer, Refusal>],

@@ -1,5 +1,5 @@
 -- What each call is answered and what it leaves, for one call and for a list of calls. Assumes nothing.
-use Rattle.std.specs.Prelude.{ℕ, ◌*◌, cond, ◌&&◌, List, [], ◌∷◌, ◌++◌, length, take, drop, Some, None, Ok, Err, Option, Result, nat_le, nat_lt}
+use Rattle.std.specs.Prelude.{ℕ, cond, ◌&&◌, List, [], ◌∷◌, ◌++◌, map, length, take, drop, Some, None, Ok, Err, Option, Result, nat_le, nat_lt}
 use Rattle.note.specs.declared.trades.Trade.{Trade}
 use Rattle.session.specs.declared.judgements.PriceRefusal.{PriceRefusal}
 use Rattle.session.specs.declared.refusals.SessionRefusal.{SessionRefusal}
@@ -141,6 +141,5 @@ abbrev pub read : List Trade → Result Answer Refusal → Reply
 read log (Ok answer) = told_by log answer
 read log (Err why) = refused why
 
-unfoldable pub read_all : List Trade → List (Result Answer Refusal) → List Reply
-read_all log [] = []
-read_all log (a ∷ answers) = read log a ∷ read_all log answers
+abbrev pub read_all : List Trade → List (Result Answer Refusal) → List Reply
+read_all log answers = map (read log) answers

@@ -1,5 +1,5 @@
 use Rattle.std.proofs.Common.{arith}
-use Rattle.feed.proofs.Telling.{tell_more, answer_left}
+use Rattle.feed.proofs.Telling.{tell_more, answer_left, told_whole}
 use Rattle.feed.proofs.replies.answer_lines.Goals as goal
 
 pub answer_line-reply-requires : goal.answer_line-reply-requires
@@ -14,3 +14,6 @@ loop-step-preserved c = (
 
 pub returns-clause-placed : goal.returns-clause-placed
 returns-clause-placed c = λ n all. (c.loop-step.invariant.0.placed n all).0
+
+pub returns-clause-told : goal.returns-clause-told
+returns-clause-told c = told_whole _ _ _ _ _ (omega arith) c.loop-step.invariant.0
