@@ -1,10 +1,10 @@
 -- What chains over the rows of a table give, in the words of the rules. Assumes nothing.
-use Rattle.std.proofs.Common.{◌≡◌, ℕ, ◌*◌, ◌≤◌, Bool, cond, ◌&&◌, eqb, List, [], ◌∷◌, length, Some, None, sym, refl, ap, ◌∙◌, ⊎_elim, arith}
-use Rattle.std.specs.List.{count_by, sum_by, find}
-use Rattle.std.specs.Option.{option_map}
+use Rattle.std.proofs.Common.{◌≡◌, ℕ, ◌+◌, ◌*◌, ◌<◌, ◌≤◌, Bool, true, false, cond, ◌&&◌, eqb, List, [], ◌∷◌, length, get_or, drop, Some, None, sym, refl, ap, ◌∙◌, arith}
+use Rattle.std.specs.List.{count_by}
 use Rattle.std.proofs.lemmas.List.Recursion.{is_sum_by}
-use Rattle.std.proofs.lemmas.List.Sums.{sum_by-cons}
-use Rattle.std.proofs.lemmas.Bool.{cases_Bool, cond-true, cond-false}
+use Rattle.std.proofs.lemmas.List.{drop_more, drop_all}
+use Rattle.std.proofs.lemmas.Bool.{cond-true, cond-false}
+use Rattle.std.proofs.Math.Bool.{and_comm}
 use Rattle.book.specs.declared.orders.Side.{Side}
 use Rattle.book.specs.Meaning.{Order, order_of, is_side, meets, part_of, quantity_at}
 use Rattle.book.proofs.Listing.{quantity_nil, quantity_cons}
@@ -28,32 +28,50 @@ module _ (s : Side) (a : ℕ) where
   first_cons o os h hs = refl
 
   abbrev pub stands : Row → Bool
-  stands r = is_side s r.live.body.side && eqb r.ahead a
+  stands r = eqb r.ahead a && is_side s r.live.body.side
 
-  pub first_row : (rows : List Row) → option_map (λ (r : Row). order_of r.live) (find stands rows) ≡ first_at s a (orders_of rows) (aheads_in rows)
-  first_row [] = sym (first_nil [])
-  first_row (r ∷ rows) =
-      ⊎_elim
-      (λ t. ap (option_map (λ (x : Row). order_of x.live)) (cond-true (stands r) _ _ t) ∙ sym (first_cons (order_of r.live) (orders_of rows) r.ahead (aheads_in rows) ∙ cond-true (stands r) _ _ t))
-      (λ f. ap (option_map (λ (x : Row). order_of x.live)) (cond-false (stands r) _ _ f) ∙ first_row rows ∙ sym (first_cons (order_of r.live) (orders_of rows) r.ahead (aheads_in rows) ∙ cond-false (stands r) _ _ f))
-      (cases_Bool (stands r))
+  first_of : (r : Row) (rows : List Row) → first_at s a (orders_of (r ∷ rows)) (aheads_in (r ∷ rows)) ≡ cond (stands r) (Some (order_of r.live)) (first_at s a (orders_of rows) (aheads_in rows))
+  first_of r rows = first_cons (order_of r.live) (orders_of rows) r.ahead (aheads_in rows) ∙ ap (λ b. cond b (Some (order_of r.live)) (first_at s a (orders_of rows) (aheads_in rows))) (and_comm (is_side s r.live.body.side) (eqb r.ahead a))
 
--- the quantities of a side at a limit
-module _ (s : Side) (m : ℕ) where
-  abbrev pub part : Row → ℕ
-  part r = part_of s m (order_of r.live)
+-- a search that has passed i rows
+module _ (s : Side) (a : ℕ) (rows : List Row) (i : ℕ) where
+  abbrev pub Passed : Type 0
+  Passed = first_at s a (orders_of rows) (aheads_in rows) ≡ first_at s a (orders_of (drop i rows)) (aheads_in (drop i rows))
 
-  pub quantity_rows : (rows : List Row) → quantity_at s m (orders_of rows) ≡ sum_by part rows
-  quantity_rows rows = is_sum_by (λ l. quantity_at s m (orders_of l)) part (quantity_nil s m) (λ r l. quantity_cons s m (order_of r.live) (orders_of l)) rows
+  module _ (r : Row) (inside : i < length rows) (is : r ≡ get_or rows i r) (passed : Passed) where
+    here : first_at s a (orders_of rows) (aheads_in rows) ≡ cond (stands s a r) (Some (order_of r.live)) (first_at s a (orders_of (drop (i + 1) rows)) (aheads_in (drop (i + 1) rows)))
+    here = passed ∙ ap (λ l. first_at s a (orders_of l) (aheads_in l)) (drop_more rows i r inside ∙ ap (λ x. x ∷ drop (i + 1) rows) (sym is)) ∙ first_of s a r (drop (i + 1) rows)
 
-  part_small : (r : Row) → part r ≤ 6858
-  part_small r =
-      let trades = is_side s r.live.body.side && meets s m r.live.body.limit in
-      ⊎_elim
-      (λ t. let e : part r ≡ r.live.body.quantity = cond-true trades _ _ t in omega (arith, r.live.body.sized.1))
-      (λ f. let e : part r ≡ 0 = cond-false trades _ _ f in omega arith)
-      (cases_Bool trades)
+    pub first_here : stands s a r ≡ true → first_at s a (orders_of rows) (aheads_in rows) ≡ Some (order_of r.live)
+    first_here t = here ∙ cond-true (stands s a r) _ _ t
 
-  pub quantity_small : (rows : List Row) → sum_by part rows ≤ 6858 * length rows
-  quantity_small [] = omega arith
-  quantity_small (r ∷ rows) = omega (arith, sum_by-cons part r rows, part_small r, quantity_small rows)
+    pub first_later : stands s a r ≡ false → first_at s a (orders_of rows) (aheads_in rows) ≡ first_at s a (orders_of (drop (i + 1) rows)) (aheads_in (drop (i + 1) rows))
+    first_later f = here ∙ cond-false (stands s a r) _ _ f
+
+  pub first_past : length rows ≤ i → Passed → first_at s a (orders_of rows) (aheads_in rows) ≡ None
+  first_past past passed = passed ∙ ap (λ l. first_at s a (orders_of l) (aheads_in l)) (drop_all i rows past) ∙ first_nil s a []
+
+-- the quantity of a side at a limit, summed over the first i rows
+pub record Summing (s : Side) (m : ℕ) (rows : List Row) (i sum : ℕ) : Type 0 where
+  pub bound : sum ≤ 6858 * i
+  pub rest : sum + quantity_at s m (orders_of (drop i rows)) ≡ quantity_at s m (orders_of rows)
+
+module _ (s : Side) (m : ℕ) (rows : List Row) (i sum : ℕ) (r : Row) (inside : i < length rows) (is : r ≡ get_or rows i r) (h : Summing s m rows i sum) where
+  next : drop i rows ≡ r ∷ drop (i + 1) rows
+  next = drop_more rows i r inside ∙ ap (λ x. x ∷ drop (i + 1) rows) (sym is)
+
+  left : quantity_at s m (orders_of (drop i rows)) ≡ part_of s m (order_of r.live) + quantity_at s m (orders_of (drop (i + 1) rows))
+  left = ap (λ l. quantity_at s m (orders_of l)) next ∙ quantity_cons s m (order_of r.live) (orders_of (drop (i + 1) rows))
+
+  pub summing_one : (is_side s r.live.body.side && meets s m r.live.body.limit) ≡ true → Summing s m rows (i + 1) (sum + r.live.body.quantity)
+  summing_one t =
+      let part : part_of s m (order_of r.live) ≡ r.live.body.quantity = cond-true (is_side s r.live.body.side && meets s m r.live.body.limit) _ _ t in
+      record { bound = omega (arith, h.bound, r.live.body.sized.1); rest = omega (arith, part, h.rest, left) }
+
+  pub summing_none : (is_side s r.live.body.side && meets s m r.live.body.limit) ≡ false → Summing s m rows (i + 1) sum
+  summing_none f =
+      let part : part_of s m (order_of r.live) ≡ 0 = cond-false (is_side s r.live.body.side && meets s m r.live.body.limit) _ _ f in
+      record { bound = omega (arith, h.bound); rest = omega (arith, part, h.rest, left) }
+
+pub summing_all : (s : Side) (m : ℕ) (rows : List Row) (i sum : ℕ) → length rows ≤ i → Summing s m rows i sum → sum ≡ quantity_at s m (orders_of rows)
+summing_all s m rows i sum past h = omega (arith, h.rest, ap (λ l. quantity_at s m (orders_of l)) (drop_all i rows past), quantity_nil s m)

@@ -1,6 +1,6 @@
 // What the rows of a table count: the orders of a side that go before another, and quantities.
 ghost use Rattle.std.specs.Prelude.{◌≡◌, ℕ, ◌≤◌, ◌&&◌, ◌==◌, length, map};
-ghost use Rattle.book.specs.Meaning.{order_of, seen, is_side, part_of, quantity_at};
+ghost use Rattle.book.specs.Meaning.{order_of, seen, is_side, meets, quantity_at};
 ghost use Rattle.book.specs.Ranks.{ahead, counted};
 ghost use Rattle.table.specs.Aheads.{shifted, first_at};
 ghost use Rattle.table.specs.Tables.{orders_of, aheads_in};
@@ -36,26 +36,32 @@ pub(crate) fn shift_behind<F: Fn(usize) -> usize>(rows: &mut [Row], live: &Live,
     }
 }
 
+/// Whether a row is of a side and has so many ahead.
+fn stands_behind(row: &Row, side: Side, ahead: usize) -> bool
+    ensures { result ≡ (row.now.ahead == ahead && is_side side row.now.live.body.side) }
+{
+    // The count first: of many rows the side is the one asked for, and of one the count.
+    row.ahead == ahead && row.live.body.side == side
+}
+
 /// The first order of a side with so many ahead.
 pub(crate) fn order_behind(rows: &[Row], side: Side, ahead: usize) -> Option<Live>
     ensures { seen result ≡ first_at side ahead (orders_of rows.now) (aheads_in rows.now) }
 {
-    let row = rows
-        .iter()
-        .find(|row| row.live.body.side == side && row.ahead == ahead)?;
-    Some(row.live)
+    // A `for`, and no `find`: with that, a rank of some sixty orders takes up to twice the time.
+    for row in rows {
+        if stands_behind(row, side, ahead) {
+            return Some(row.live);
+        }
+    }
+    None
 }
 
-/// What an order adds to the quantity of a side at `m` ticks.
-fn part_at(live: &Live, side: Side, m: u32) -> u32
-    ensures { result ≡ part_of side m (order_of live.now) }
+/// Whether an order is of a side and trades at `m` ticks.
+fn trades_on(order: &Live, side: Side, m: u32) -> bool
+    ensures { result ≡ (is_side side (order_of order.now).side && meets side m (order_of order.now).limit) }
 {
-    let body = live.body;
-    if body.side == side && trades_at(side, m, body.limit) {
-        body.quantity
-    } else {
-        0
-    }
+    order.body.side == side && trades_at(side, m, order.body.limit)
 }
 
 /// The quantity of a side's orders that trade at `m` ticks.
@@ -63,5 +69,12 @@ pub(crate) fn quantity_of(rows: &[Row], side: Side, m: u32) -> u32
     requires { length rows.now ≤ 256 }
     ensures { result ≡ quantity_at side m (orders_of rows.now) }
 {
-    rows.iter().map(|row| part_at(&row.live, side, m)).sum()
+    // A `for`, and no chain that ends in `sum`: a price search asks for nothing else, and with one it takes up to twice the time.
+    let mut sum = 0u32;
+    for row in rows {
+        if trades_on(&row.live, side, m) {
+            sum += row.live.body.quantity;
+        }
+    }
+    sum
 }

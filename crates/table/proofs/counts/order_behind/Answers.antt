@@ -1,20 +1,12 @@
-use Rattle.std.proofs.Common.{rules, ◌∙◌, sym, ap}
-use Rattle.std.specs.Option.{option_map}
-use Rattle.std.proofs.lemmas.Iterator.{YieldsList-from_slice}
-use Rattle.std.proofs.lemmas.Iterator.Search.{find_from_yields_List}
-use Rattle.book.specs.Meaning.{order_of, seen}
-use Rattle.table.specs.declared.row.Row.{Row}
-use Rattle.table.proofs.Chains.{stands, first_row}
+use Rattle.std.proofs.Common.{arith, sym}
+use Rattle.table.proofs.Chains.{first_here, first_later, first_past}
 use Rattle.table.proofs.counts.order_behind.Goals as goal
 
-pub returns-in_err-row : goal.returns-in_err-row
-returns-in_err-row c =
-    let told = find_from_yields_List {v = λ y. y.now} (stands c.args.side c.args.ahead) _ _ c.find.result c.find.ensures.ran (YieldsList-from_slice c.args.rows.now c.iter.ensures.rest) (λ x b q k. search (rules, k)) in
-    let first = ap (option_map (λ (r : Row). order_of r.live)) told ∙ first_row c.args.side c.args.ahead c.args.rows.now in
-    ap seen c.from_residual.ensures ∙ sym (ap (λ r. option_map (λ (x : Row). order_of x.live) (option_map (λ y. y.now) r)) c.in_err-row.was) ∙ first
+pub returns-then-stands_behind : goal.returns-then-stands_behind
+returns-then-stands_behind c = sym (first_here c.args.side c.args.ahead c.args.rows.now c.loop-row.row-index c.row-item.result (omega arith) c.row-item.is c.loop-row.invariant (sym c.if-stands_behind.ensures))
+
+pub loop-row-preserved : goal.loop-row-preserved
+loop-row-preserved c = first_later c.args.side c.args.ahead c.args.rows.now c.loop-row.row-index c.row-item.result (omega arith) c.row-item.is c.loop-row.invariant (sym c.if-stands_behind.ensures)
 
 pub returns : goal.returns
-returns c =
-    let told = find_from_yields_List {v = λ y. y.now} (stands c.args.side c.args.ahead) _ _ c.find.result c.find.ensures.ran (YieldsList-from_slice c.args.rows.now c.iter.ensures.rest) (λ x b q k. search (rules, k)) in
-    let first = ap (option_map (λ (r : Row). order_of r.live)) told ∙ first_row c.args.side c.args.ahead c.args.rows.now in
-    sym (ap (λ r. option_map (λ (x : Row). order_of x.live) (option_map (λ y. y.now) r)) c.in_ok-row.was) ∙ first
+returns c = sym (first_past c.args.side c.args.ahead c.args.rows.now c.loop-row.row-index (omega arith) c.loop-row.invariant)

@@ -1,8 +1,25 @@
-use Rattle.std.proofs.Common.{rules, tests, ◌∙◌, sym}
-use Rattle.std.proofs.lemmas.Iterator.{YieldsList-from_slice, YieldsList-from_map}
-use Rattle.std.proofs.lemmas.Iterator.Consumers.{sum_by_from_yields_List}
-use Rattle.table.proofs.Chains.{part, quantity_rows}
+use Rattle.std.proofs.Common.{◌+◌, sym, subst, arith}
+use Rattle.table.proofs.Chains.{Summing, summing_one, summing_none, summing_all}
+use Rattle.table.proofs.counts.quantity_of.Goals.{then-trades_on, else-trades_on}
 use Rattle.table.proofs.counts.quantity_of.Goals as goal
 
+pub loop-row-init : goal.loop-row-init
+loop-row-init c = record { bound = omega arith; rest = omega arith }
+
+pub overflow_add-sum : goal.overflow_add-sum
+overflow_add-sum c = omega (arith, c.loop-row.invariant.bound, c.row-item.result.live.body.sized.1, c.requires)
+
+pub loop-row-preserved : goal.loop-row-preserved
+loop-row-preserved c =
+    let s = c.args.side in
+    let m = c.args.m in
+    let rows = c.args.rows.now in
+    let i = c.loop-row.row-index in
+    let row = c.row-item.result in
+    elim c.if-trades_on.branch [
+      | then-trades_on w ↦ subst (Summing s m rows (i + 1)) (sym w.sum-is) (summing_one s m rows i c.loop-row.sum row (omega arith) c.row-item.is c.loop-row.invariant (sym w.if-trades_on.ensures))
+      | else-trades_on w ↦ subst (Summing s m rows (i + 1)) (sym w.sum-is) (summing_none s m rows i c.loop-row.sum row (omega arith) c.row-item.is c.loop-row.invariant (sym w.if-trades_on.ensures))
+    ]
+
 pub returns : goal.returns
-returns c = sum_by_from_yields_List _ _ c.map.result _ c.sum.ensures.ran (YieldsList-from_map _ (part c.args.side c.args.m) (YieldsList-from_slice c.args.rows.now cc) c.map.ensures.closure (λ x r q k. search (rules, tests))) ∙ sym (quantity_rows c.args.side c.args.m c.args.rows.now)
+returns c = summing_all c.args.side c.args.m c.args.rows.now c.loop-row.row-index c.loop-row.sum (omega arith) c.loop-row.invariant
