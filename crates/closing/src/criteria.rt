@@ -119,16 +119,21 @@ impl JudgedInputs<'_> {
         mean(self.session, u64::from(lower) + u64::from(upper), 2)
     }
 
-    /// The price of the first criterion that serves.
-    // All five are worked out, which is less than judging did: it read everything too. With `or_else` the closures would
-    // lend `self`, which holds references, and nothing is known of what such a closure returns.
+    /// The price of the first criterion that serves; no later one is worked out.
+    // By hand where a criterion takes work: of the closure that `or_else` calls, which would hold `self` and its references,
+    // nothing is known.
     pub(crate) fn first_price(self) -> Option<u32>
         ensures { result ≡ first_price self.entry.session.tick self.entry.inputs }
     {
-        self.todays_price()
-            .or(self.last_price())
-            .or(self.traded_mean())
-            .or(self.best_mean())
-            .or(self.survey_median())
+        if let Some(price) = self.todays_price().or(self.last_price()) {
+            return Some(price);
+        }
+        if let Some(price) = self.traded_mean() {
+            return Some(price);
+        }
+        if let Some(price) = self.best_mean() {
+            return Some(price);
+        }
+        self.survey_median()
     }
 }
