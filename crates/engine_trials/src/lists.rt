@@ -1,5 +1,5 @@
 // Generated lists of calls, on both makes and on the calculator.
-use crate::tallies::Outcome;
+use crate::tallies::{Kind, Outcome};
 use book::{Live, OrderBook};
 use calculator::{PlainBook, PlainOrder, PlainRefusal, PlainReply, Source, order};
 use engine::{Journal, run};
@@ -196,8 +196,9 @@ fn try_list(heap: Global, source: &mut Source) -> Result<Outcome, AllocError> {
     let expected = expect(heap, plain, &calls, room)?;
     let table_apart = is_apart::<Table>(heap, places, session, &calls, &expected)?;
     let ladder_apart = is_apart::<Ladder>(heap, places, session, &calls, &expected)?;
+    let kinds = expected.answers.iter().map(|answer| answer.map(Kind::from));
     Ok(Outcome {
-        answers: expected.answers,
+        answers: kinds.collect(heap)?,
         trades: expected.log.len(),
         table_apart,
         ladder_apart,

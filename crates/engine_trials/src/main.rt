@@ -8,8 +8,7 @@ mod tallies;
 
 use days::{run_crowd, run_listing, run_numbers, run_registers};
 use lists::try_lists;
-use tallies::{Outcome, all_answers, traded};
-use trading::Answer;
+use tallies::{Kind, Outcome, all_answers, traded};
 use trials::show_count;
 
 /// Where the generated numbers start.
@@ -18,41 +17,30 @@ const SEED: u64 = 18_112_026;
 const LISTS: u32 = 2_000;
 
 /// Prints how many calls came to each kind of answer.
-fn show_answers(rt: &HostRuntime, answers: &[Result<Answer, u8>]) -> anyhow::Result<()> {
-    show_count(
-        rt,
-        "entered",
-        answers,
-        |answer| matches!(answer, Ok(Answer::Entered(_))),
-    )?;
-    show_count(rt, "cut", answers, |answer| *answer == Ok(Answer::Cut))?;
-    show_count(
-        rt,
-        "withdrawn",
-        answers,
-        |answer| *answer == Ok(Answer::Withdrawn),
-    )?;
-    show_count(
-        rt,
-        "indicated",
-        answers,
-        |answer| matches!(answer, Ok(Answer::Indicated(_))),
-    )?;
-    show_count(
-        rt,
-        "uncrossed",
-        answers,
-        |answer| matches!(answer, Ok(Answer::Uncrossed { .. })),
-    )?;
+fn show_answers(rt: &HostRuntime, answers: &[Result<Kind, u8>]) -> anyhow::Result<()> {
+    for (words, kind) in [
+        ("entered", Kind::Entered),
+        ("cut", Kind::Cut),
+        ("withdrawn", Kind::Withdrawn),
+        ("indicated", Kind::Indicated),
+        ("uncrossed", Kind::Uncrossed),
+    ] {
+        show_count(rt, words, answers, |answer| *answer == Ok(kind))?;
+    }
     Ok(())
 }
 
 /// Prints how many calls came to each refusal that came.
-fn show_refusals(rt: &HostRuntime, answers: &[Result<Answer, u8>]) -> anyhow::Result<()> {
-    for number in 0u8..=u8::MAX {
-        if answers.contains(&Err(number)) {
-            let words = format!(in rt.alloc(); "refused {number}")?;
-            show_count(rt, &words, answers, |answer| *answer == Err(number))?;
+fn show_refusals(rt: &HostRuntime, answers: &[Result<Kind, u8>]) -> anyhow::Result<()> {
+    // One pass for all numbers: to ask of each number whether it came takes longer than all the lists.
+    let mut counts = [0usize; 256];
+    for number in answers.iter().filter_map(|answer| answer.err()) {
+        let count = &mut counts[usize::from(number)];
+        *count = count.saturating_add(1);
+    }
+    for (number, count) in counts.iter().enumerate() {
+        if *count > 0 {
+            println!(rt; "refused {number} {count}")?;
         }
     }
     Ok(())
