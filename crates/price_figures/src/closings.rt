@@ -1,6 +1,5 @@
 // Figures of the closing price.
 use crate::figures::{Figure, show_figures};
-use crate::refused::show_refused;
 use closing::{ClosingInputs, LastPrice, PricedTrade, closing_price};
 use ranking::SurveyPrice;
 use session::Session;
@@ -838,15 +837,16 @@ static FIGURES: [Figure<'static, ClosingInputs<'static>>; 70] = [
     },
 ];
 
-/// Ends a line with the closing price.
+/// Prints a figure with its closing price, in one write.
 fn show_price(
     rt: &HostRuntime,
     session: Session,
+    name: &str,
     inputs: ClosingInputs<'static>,
 ) -> anyhow::Result<()> {
     match closing_price(session, inputs) {
-        Ok(price) => println!(rt; "{price}")?,
-        Err(why) => show_refused(rt, why)?,
+        Ok(price) => println!(rt; "closing, {name}: {price}")?,
+        Err(why) => println!(rt; "closing, {name}: refused {}", u8::from(why))?,
     }
     Ok(())
 }
@@ -854,9 +854,7 @@ fn show_price(
 /// Prints each figure with its closing price.
 pub(crate) fn show_all(rt: &HostRuntime, session: Session) -> anyhow::Result<()> {
     show_figures(
-        rt,
-        "closing",
         &FIGURES,
-        |inputs| show_price(rt, session, inputs),
+        |name, inputs| show_price(rt, session, name, inputs),
     )
 }

@@ -7,18 +7,15 @@ pub(crate) struct Figure<'a, I> {
     pub(crate) given: I,
 }
 
-/// Prints each figure after a word, and then what is answered to it.
-pub(crate) fn show_figures<I: Copy, F: Fn(I) -> anyhow::Result<()>>(
-    rt: &HostRuntime,
-    word: &str,
+/// Prints each figure by its name and what is given.
+pub(crate) fn show_figures<I: Copy, F: Fn(&str, I) -> anyhow::Result<()>>(
     figures: &[Figure<'_, I>],
-    show_answer: F,
+    show: F,
 ) -> anyhow::Result<()>
-    requires { F.IsAlwaysCallable show_answer }
+    requires { F.IsAlwaysCallable show }
 {
     for figure in figures {
-        print!(rt; "{word}, {}: ", figure.name)?;
-        show_answer(figure.given)?;
+        show(figure.name, figure.given)?;
     }
     Ok(())
 }

@@ -1,6 +1,5 @@
 // Figures of the registration verdict.
 use crate::figures::{Figure, show_figures};
-use crate::refused::show_refused;
 use registration::{BestPrice, Registration, verdict};
 use session::Session;
 
@@ -426,11 +425,16 @@ static FIGURES: [Figure<'static, Registration>; 47] = [
     },
 ];
 
-/// Ends a line with the verdict.
-fn show_verdict(rt: &HostRuntime, session: Session, asked: Registration) -> anyhow::Result<()> {
+/// Prints a figure with its verdict, in one write.
+fn show_verdict(
+    rt: &HostRuntime,
+    session: Session,
+    name: &str,
+    asked: Registration,
+) -> anyhow::Result<()> {
     match verdict(session, asked) {
-        Ok(criterion) => println!(rt; "accepted by {}", u8::from(criterion))?,
-        Err(why) => show_refused(rt, why)?,
+        Ok(criterion) => println!(rt; "registration, {name}: accepted by {}", u8::from(criterion))?,
+        Err(why) => println!(rt; "registration, {name}: refused {}", u8::from(why))?,
     }
     Ok(())
 }
@@ -438,9 +442,7 @@ fn show_verdict(rt: &HostRuntime, session: Session, asked: Registration) -> anyh
 /// Prints each figure with its verdict.
 pub(crate) fn show_all(rt: &HostRuntime, session: Session) -> anyhow::Result<()> {
     show_figures(
-        rt,
-        "registration",
         &FIGURES,
-        |asked| show_verdict(rt, session, asked),
+        |name, asked| show_verdict(rt, session, name, asked),
     )
 }
