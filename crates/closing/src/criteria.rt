@@ -119,7 +119,7 @@ impl JudgedInputs<'_> {
         mean(self.session, u64::from(lower) + u64::from(upper), 2)
     }
 
-    /// The price of the first criterion that serves; no later one is worked out.
+    /// The price of the first criterion that serves. The means and the median are worked out only where none before them serves.
     // By hand where a criterion takes work: of the closure that `or_else` calls, which would hold `self` and its references,
     // nothing is known.
     pub(crate) fn first_price(self) -> Option<u32>

@@ -40,7 +40,7 @@ pub(crate) fn shift_behind<F: Fn(usize) -> usize>(rows: &mut [Row], live: &Live,
 fn stands_behind(row: &Row, side: Side, ahead: usize) -> bool
     ensures { result ≡ (row.now.ahead == ahead && is_side side row.now.live.body.side) }
 {
-    // The count first: of many rows the side is the one asked for, and of one the count.
+    // The count first: at most one row of each side has it, and many rows have the side.
     row.ahead == ahead && row.live.body.side == side
 }
 
@@ -69,7 +69,8 @@ pub(crate) fn quantity_of(rows: &[Row], side: Side, m: u32) -> u32
     requires { length rows.now ≤ 256 }
     ensures { result ≡ quantity_at side m (orders_of rows.now) }
 {
-    // A `for`, and no chain that ends in `sum`: a price search asks for nothing else, and with one it takes up to twice the time.
+    // A `for`, and no chain that ends in `sum`: a price search asks for it at each price that it looks at, and with one it takes up to
+    // twice the time.
     let mut sum = 0u32;
     for row in rows {
         if trades_on(&row.live, side, m) {
